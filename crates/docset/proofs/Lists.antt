@@ -52,8 +52,8 @@ pub rising-from : (t lo : ℕ) (ps : List Pair) → Rising lo ps → Rising lo (
 rising-from t lo [] r = tt
 rising-from t lo (p ∷ ps) r =
     elim (ltb (p .id) t) as (λ (b : Bool). Rising lo (cond b (from t ps) (p ∷ ps))) [
-      true ↦ lower lo (suc (p .id)) (ids (from t ps)) (omega (arith, r .0)) (rising-from t (suc (p .id)) ps (r .2))
-    | false ↦ r
+      | true ↦ lower lo (suc (p .id)) (ids (from t ps)) (omega (arith, r .0)) (rising-from t (suc (p .id)) ps (r .2))
+      | false ↦ r
     ]
 
 -- ---- `from`
@@ -63,6 +63,14 @@ from-lt t p ps h = cond-true (ltb (p .id) t) (from t ps) (p ∷ ps) (lt-ltb (p .
 
 pub from-ge : (t : ℕ) (p : Pair) (ps : List Pair) → t ≤ p .id → from t (p ∷ ps) ≡ p ∷ ps
 from-ge t p ps h = cond-false (ltb (p .id) t) (from t ps) (p ∷ ps) (le-ltb (p .id) t h)
+
+pub from-shorter : (t : ℕ) (ps : List Pair) → length (from t ps) ≤ length ps
+from-shorter t [] = omega arith
+from-shorter t (p ∷ ps) =
+    elim (ltb (p .id) t) as (λ (b : Bool). length (cond b (from t ps) (p ∷ ps)) ≤ suc (length ps)) [
+      | true ↦ omega (arith, from-shorter t ps)
+      | false ↦ omega arith
+    ]
 
 -- a list that begins at t or later loses nothing
 pub from-all : (t : ℕ) (ps : List Pair) → t ≤ first-id ps → from t ps ≡ ps
@@ -89,12 +97,12 @@ from-next t [] h = refl
 from-next t (p ∷ ps) h =
     ⊎-elim {C = from (suc t) (p ∷ ps) ≡ from t (p ∷ ps)}
     (λ k.
-      from-lt (suc t) p ps (omega arith) ∙ from-next t ps (λ z. h (ap first-id (from-lt t p ps k) ∙ z)) ∙
-      sym (from-lt t p ps k))
+    from-lt (suc t) p ps (omega arith) ∙ from-next t ps (λ z. h (ap first-id (from-lt t p ps k) ∙ z)) ∙
+    sym (from-lt t p ps k))
     (λ k.
-      let ne : p .id ≡ t → ⊥ = λ z. h (ap first-id (from-ge t p ps k) ∙ z) in
-      let lt : t < p .id = omega (arith, k, ne) in
-      from-ge (suc t) p ps lt ∙ sym (from-ge t p ps k))
+    let ne : p .id ≡ t → ⊥ = λ z. h (ap first-id (from-ge t p ps k) ∙ z) in
+    let lt : t < p .id = omega (arith, k, ne) in
+    from-ge (suc t) p ps lt ∙ sym (from-ge t p ps k))
     (cases-lt (p .id) t)
 
 -- a seek that comes to no id
@@ -138,8 +146,8 @@ has-missed t lo (p ∷ ps) r h =
     ⊎-elim {C = has t (p ∷ ps) ≡ false}
     (λ k. has-ne t p ps (λ z. omega arith) ∙ has-missed t (suc (p .id)) ps (r .2) (λ z. h (ap first-id (from-lt t p ps k) ∙ z)))
     (λ k.
-      let ne : p .id ≡ t → ⊥ = λ z. h (ap first-id (from-ge t p ps k) ∙ z) in
-      has-ne t p ps ne ∙ has-below t (suc (p .id)) ps (r .2) (omega (arith, k)))
+    let ne : p .id ≡ t → ⊥ = λ z. h (ap first-id (from-ge t p ps k) ∙ z) in
+    has-ne t p ps ne ∙ has-below t (suc (p .id)) ps (r .2) (omega (arith, k)))
     (cases-lt (p .id) t)
 
 -- ---- what a probe leaves

@@ -29,7 +29,7 @@ along-starts m d h =
       shrinks = omega arith;
       still = λ s. s;
       rises = λ s. h .rises (steady-known (m .mark) s);
-      tells = h .tells
+      tells = h .tells;
     }
 
 pub along-steps : (m n o : Meaning) (d e : ℕ) → Along m n d → Moved n o e → Along m o e
@@ -39,8 +39,8 @@ along-steps m n o d e i h =
       shrinks = omega (arith, h .shrinks, i .shrinks);
       still = λ s. ap (λ (x : Meaning). x .mark) (h .becomes (i .still s));
       rises = λ s.
-        subst (λ (x : Meaning). Rising 0 (x .pairs)) (sym (h .becomes (i .still s))) (rising-rest (n .pairs) (i .rises s));
-      tells = λ s. h .tells (i .still s) ∙ ap (λ (x : Meaning). first-id (x .pairs)) (sym (h .becomes (i .still s)))
+          subst (λ (x : Meaning). Rising 0 (x .pairs)) (sym (h .becomes (i .still s))) (rising-rest (n .pairs) (i .rises s));
+      tells = λ s. h .tells (i .still s) ∙ ap (λ (x : Meaning). first-id (x .pairs)) (sym (h .becomes (i .still s)));
     }
 
 -- the measure: what is listed, and one more until TERM is answered
@@ -66,9 +66,9 @@ seek-steps t m n d i lt o e h =
     record {
       along = along-steps m n o d e (i .along) h;
       same = λ s.
-        ap (λ (x : Meaning). from t (x .pairs)) (h .becomes (i .along .still s)) ∙
-        from-rest t (n .pairs) (omega (arith, i .along .tells s)) ∙
-        i .same s
+          ap (λ (x : Meaning). from t (x .pairs)) (h .becomes (i .along .still s)) ∙
+          from-rest t (n .pairs) (omega (arith, i .along .tells s)) ∙
+          i .same s;
     }
 
 pub seek-ends :
@@ -76,14 +76,14 @@ pub seek-ends :
 seek-ends t m n d i o =
     let a = i .along in
     let at : Steady m → from t (m .pairs) ≡ n .pairs =
-        λ s.
-          sym (i .same s) ∙
-          from-end t (n .pairs) (a .rises s) (⊎-elim (λ h. inl (omega (arith, a .tells s))) (λ h. inr (sym (a .tells s) ∙ h)) o) in
+    λ s.
+    sym (i .same s) ∙
+    from-end t (n .pairs) (a .rises s) (⊎-elim (λ h. inl (omega (arith, a .tells s))) (λ h. inr (sym (a .tells s) ∙ h)) o) in
     record {
       an-id = a .an-id;
       shrinks = a .shrinks;
       becomes = λ s. settled n (from t (m .pairs)) (a .still s) (sym (at s));
-      tells = λ s. a .tells s ∙ ap first-id (sym (at s))
+      tells = λ s. a .tells s ∙ ap first-id (sym (at s));
     }
 
 -- ---- counts
@@ -101,7 +101,7 @@ count-starts w m d h =
       along = along-starts m d h;
       few = λ s. omega arith;
       small = λ s. short (m .pairs) (h .rises (steady-known (m .mark) s));
-      total = λ s. omega arith
+      total = λ s. omega arith;
     }
 
 weighed-rest :
@@ -119,10 +119,10 @@ count-steps w m n d k i ne le o e j jk h =
       few = λ s. omega (arith, falls n o d e (a .an-id) ne h, i .few s);
       small = i .small;
       total = λ s.
-        let x : weighed w (o .pairs) ≡ weighed w (rest (n .pairs)) = ap (λ (z : Meaning). weighed w (z .pairs)) (h .becomes (a .still s)) in
-        let y : w (first-id (n .pairs)) + weighed w (rest (n .pairs)) ≡ weighed w (n .pairs) = weighed-rest w (n .pairs) (λ z. ne (a .tells s ∙ z)) in
-        let z : w d ≡ w (first-id (n .pairs)) = ap w (a .tells s) in
-        omega (arith, i .total s, i .few s, i .small s, le)
+          let x : weighed w (o .pairs) ≡ weighed w (rest (n .pairs)) = ap (λ (z : Meaning). weighed w (z .pairs)) (h .becomes (a .still s)) in
+          let y : w (first-id (n .pairs)) + weighed w (rest (n .pairs)) ≡ weighed w (n .pairs) = weighed-rest w (n .pairs) (λ z. ne (a .tells s ∙ z)) in
+          let z : w d ≡ w (first-id (n .pairs)) = ap w (a .tells s) in
+          omega (arith, i .total s, i .few s, i .small s, le);
     }
 
 pub count-ends :
@@ -155,7 +155,7 @@ fill-starts m old d l h =
       wide = l;
       drops = λ s. refl;
       reach = λ s. omega arith;
-      writes = λ s. refl
+      writes = λ s. refl;
     }
 
 -- one more place of the buffer
@@ -191,19 +191,19 @@ pub fill-steps :
 fill-steps m n old new i d lo f lt ne o e h =
     let a = f .along in
     let inside : Steady m → i < length (m .pairs) =
-        λ s. first-drop (m .pairs) i (λ z. ne (a .tells s ∙ ap first-id (f .drops s) ∙ z)) in
+    λ s. first-drop (m .pairs) i (λ z. ne (a .tells s ∙ ap first-id (f .drops s) ∙ z)) in
     record {
       along = along-steps m n o d e a h;
       at-most = omega arith;
       wide = length-set new i d ∙ f .wide;
       drops = λ s.
-        ap (λ (x : Meaning). x .pairs) (h .becomes (a .still s)) ∙ ap rest (f .drops s) ∙ rest-drop (m .pairs) i;
+          ap (λ (x : Meaning). x .pairs) (h .becomes (a .still s)) ∙ ap rest (f .drops s) ∙ rest-drop (m .pairs) i;
       reach = λ s. omega (arith, inside s);
       writes = λ s.
-        let at : d ≡ getD (ids (m .pairs)) i 0 = a .tells s ∙ ap first-id (f .drops s) ∙ first-at (m .pairs) i (inside s) in
-        ap (λ (x : List ℕ). set x i d) (f .writes s) ∙
-        ap (λ (x : ℕ). set (take i (ids (m .pairs)) ++ drop i old) i x) at ∙
-        set-seam (ids (m .pairs)) old i (omega (arith, inside s, length-ids (m .pairs))) (omega arith)
+          let at : d ≡ getD (ids (m .pairs)) i 0 = a .tells s ∙ ap first-id (f .drops s) ∙ first-at (m .pairs) i (inside s) in
+          ap (λ (x : List ℕ). set x i d) (f .writes s) ∙
+          ap (λ (x : ℕ). set (take i (ids (m .pairs)) ++ drop i old) i x) at ∙
+          set-seam (ids (m .pairs)) old i (omega (arith, inside s, length-ids (m .pairs))) (omega arith);
     }
 
 -- where the walk stopped, 64 reaches no further
@@ -237,11 +237,11 @@ block-of m n old new i le sh stop reach drops writes =
       shrinks = sh;
       becomes = λ s. drops s ∙ ap {B = Meaning} (λ (x : List Pair). calm x) (drop-either (m .pairs) i le (stop s));
       writes = λ s.
-        let stop′ : (i ≡ 64) ⊎ (i ≡ length (ids (m .pairs))) =
-            ⊎-elim (λ h. inl h) (λ h. inr (h ∙ sym (length-ids (m .pairs)))) (stop s) in
-        writes s ∙ ap (λ (x : List ℕ). x ++ drop i old) (take-either (ids (m .pairs)) i le stop′);
+          let stop′ : (i ≡ 64) ⊎ (i ≡ length (ids (m .pairs))) =
+          ⊎-elim (λ h. inl h) (λ h. inr (h ∙ sym (length-ids (m .pairs)))) (stop s) in
+          writes s ∙ ap (λ (x : List ℕ). x ++ drop i old) (take-either (ids (m .pairs)) i le stop′);
       tells = λ s.
-        sym (length-take-le i (m .pairs) (reach s)) ∙ ap length (take-either (m .pairs) i le (stop s))
+          sym (length-take-le i (m .pairs) (reach s)) ∙ ap length (take-either (m .pairs) i le (stop s));
     }
 
 pub fill-ends :

@@ -61,10 +61,19 @@ impl Refusal {
 pub impl fmt::Display for Refusal as RefusalDisplay {
     fn fmt<W: fmt::Write>(&self, f: &mut fmt::Formatter<W>) -> fmt::Result {
         match self {
-            Refusal::NotRising(place) => write!(f, "the id at place {place} is not above the one before it"),
-            Refusal::TooLarge(place) => write!(f, "the id at place {place} is larger than 2147483646"),
+            Refusal::NotRising(place) => write!(
+                f,
+                "the id at place {place} is not above the one before it"
+            ),
+            Refusal::TooLarge(place) => write!(
+                f,
+                "the id at place {place} is larger than 2147483646"
+            ),
             Refusal::SegmentTooLarge => write!(f, "a segment has at most 2147483647 documents"),
-            Refusal::WrongWordCount => write!(f, "the number of words does not fit the number of documents"),
+            Refusal::WrongWordCount => write!(
+                f,
+                "the number of words does not fit the number of documents"
+            ),
             Refusal::BitPastEnd => write!(f, "a bit is set for a document past the end"),
             Refusal::TooManySets => write!(f, "more than 32 sets"),
             Refusal::MinimumZero => write!(f, "a minimum of 0 sets"),

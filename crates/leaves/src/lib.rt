@@ -1,0 +1,4 @@
+// The document sets that stand on data: a list of ids, words of bits, and all documents of a segment.
+pub mod all_scorer;
+pub mod bitset;
+pub mod vec_docset;
