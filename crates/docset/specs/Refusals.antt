@@ -1,5 +1,8 @@
 -- What a refusal tells: its number, and the place of the id at fault.
 use Prim.Native.Nat.{ℕ}
+use mathlib.Core.List.{List, _++_}
+use lib.Chars.{codes}
+use Rattle.std.specs.Written.{decimal}
 use Rattle.std.specs.declared.option.Option.{Option}
 use Rattle.std.specs.declared.option.Option.the-variants.{Some, None}
 use Rattle.docset.specs.declared.refusal.Refusal.{Refusal}
@@ -25,3 +28,14 @@ place-of BitPastEnd = None
 place-of TooManySets = None
 place-of MinimumZero = None
 place-of NotFinite = None
+
+-- the text of a refusal, as bytes
+abbrev pub words-of : Refusal → List ℕ
+words-of (NotRising place) = codes "the id at place " ++ (decimal place ++ codes " is not above the one before it")
+words-of (TooLarge place) = codes "the id at place " ++ (decimal place ++ codes " is larger than 2147483646")
+words-of SegmentTooLarge = codes "a segment has at most 2147483647 documents"
+words-of WrongWordCount = codes "the number of words does not fit the number of documents"
+words-of BitPastEnd = codes "a bit is set for a document past the end"
+words-of TooManySets = codes "more than 32 sets"
+words-of MinimumZero = codes "a minimum of 0 sets"
+words-of NotFinite = codes "a factor that is not finite"

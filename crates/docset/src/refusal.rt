@@ -1,5 +1,6 @@
 ghost use mathlib.Core.Path.{_≡_};
-ghost use Rattle.docset.specs.Refusals.{number-of, place-of};
+ghost use Rattle.std.specs.declared.option.Option.the-variants.{Some};
+ghost use Rattle.docset.specs.Refusals.{number-of, place-of, words-of};
 use std::fmt;
 
 // Why a builder refuses what it was given. A refused builder answers one of these beside a set
@@ -59,6 +60,8 @@ impl Refusal {
 }
 
 pub impl fmt::Display for Refusal as RefusalDisplay {
+    ghost shown = { λ x. Some (words-of x) };
+
     fn fmt<W: fmt::Write>(&self, f: &mut fmt::Formatter<W>) -> fmt::Result {
         match self {
             Refusal::NotRising(place) => write!(

@@ -78,15 +78,15 @@ pub fn fill_by_advance<S: Walk>(set: &mut S, buffer: &mut [u32; 64]) -> usize
 pub fn count_by_advance<S: Walk>(mut set: S, alive_bitset: &AliveBitSet) -> u32
     ensures { λ r. ⌜ CountedAlive (now (now («alive_bitset» .entry) .words)) (walked set) r ⌝ }
 {
-    let mut count: u32 = 0;
+    let mut alive: u32 = 0;
     let mut doc = set.here();
     while doc != TERMINATED {
         if alive_bitset.is_alive(doc) {
-            count = count.saturating_add(1);
+            alive = alive.saturating_add(1);
         }
         doc = set.step();
     }
-    count
+    alive
 }
 
 pub fn count_all_by_advance<S: Walk>(mut set: S) -> u32

@@ -1,0 +1,2 @@
+// Scorers that change the scores of the set below them, and nothing else of it.
+pub mod boost_scorer;
