@@ -1,0 +1,4 @@
+pub mod Best
+pub mod Heaps
+pub mod Ranks
+pub mod Scores

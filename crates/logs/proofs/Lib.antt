@@ -1,0 +1,3 @@
+pub mod Laws
+pub mod Tracks
+pub mod Steps
