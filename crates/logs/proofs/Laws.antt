@@ -13,7 +13,7 @@ use Rattle.docset.specs.declared.docset.SeekDangerResult.{SeekDangerResult}
 use Rattle.docset.specs.declared.docset.SeekDangerResult.the-variants.{Found, SeekLowerBound}
 use Rattle.docset.specs.Meaning.{Meaning, Mark, steady, Pair, TERM, Steady, Known, calm, ids, first-id, first-score, rest, from, has, probed, Rising, RisingIds}
 use Rattle.docset.specs.Calls.{found, Marks, Told, Moved, Sought, Probed, Filled, Counted, CountedAlive, Scored}
-use Rattle.docset.proofs.Lists.{steady-known, settled, rising-rest, rising-from, lower}
+use Rattle.docset.proofs.Lists.{steady-known, settled, rising-rest, rising-from, lower, from-shorter}
 use Rattle.logs.specs.declared.call.Call.{Call}
 use Rattle.logs.specs.declared.call.Call.the-variants.{Doc, Score, Advance, Seek, Probe, Block}
 use Rattle.logs.specs.declared.call.Answer.{Answer}
@@ -177,18 +177,10 @@ rest-drops : (ps : List Pair) → (length (rest ps) < length ps) ⊎ (first-id (
 rest-drops [] = inr refl
 rest-drops (p ∷ ps) = inl (omega arith)
 
-from-shrinks : (t : ℕ) (ps : List Pair) → length (from t ps) ≤ length ps
-from-shrinks t [] = omega arith
-from-shrinks t (p ∷ ps) =
-    elim (ltb (p .id) t) as (λ (b : Bool). length (cond b (from t ps) (p ∷ ps)) ≤ suc (length ps)) [
-      | true ↦ omega (arith, from-shrinks t ps)
-      | false ↦ omega arith
-    ]
-
 probed-shrinks : (t : ℕ) (ps : List Pair) → length (probed t ps) ≤ length ps
 probed-shrinks t ps =
     elim (ltb t TERM) as (λ (b : Bool). length (cond b (from t ps) ps) ≤ length ps) [
-      | true ↦ from-shrinks t ps
+      | true ↦ from-shorter t ps
       | false ↦ omega arith
     ]
 
@@ -251,7 +243,7 @@ plain-promise (Seek t) ps h = (
   refl,
   record {
     an-id = first-small (from t ps) (rising-from t 0 ps h);
-    shrinks = from-shrinks t ps;
+    shrinks = from-shorter t ps;
     becomes = λ _. refl;
     tells = λ _. refl;
   },

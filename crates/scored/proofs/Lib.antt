@@ -1,2 +1,5 @@
 pub mod Rescored
 pub mod Boosts
+pub mod Same
+pub mod Marked
+pub mod Optionals

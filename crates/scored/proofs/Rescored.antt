@@ -1,5 +1,5 @@
 -- A set with other scores answers every call but `score` as the set below it: each promise below is one above.
-use Prim.Native.Nat.{ℕ, zero, suc, _+_, _≤_}
+use Prim.Native.Nat.{ℕ, zero, suc, _+_, _<_, _≤_}
 use native.Mathlib.Omega.{arith}
 use mathlib.Core.Path.{_≡_, refl, sym, ap, subst, _∙_}
 use mathlib.Core.Bool.{Bool, true, false, cond, _||_}
@@ -8,9 +8,9 @@ use mathlib.Core.Logic.{inl, inr, ⊎-elim}
 use lib.Dec.{ltb, eqb}
 use lib.Ieee.{Float}
 use lib.ListN.{length, take, drop}
-use Rattle.docset.specs.Meaning.{Meaning, Pair, TERM, Steady, calm, ids, first-id, first-score, zero-score, rest, from, has, probed, Rising, RisingIds}
+use Rattle.docset.specs.Meaning.{Meaning, Mark, Pair, TERM, Steady, calm, ids, first-id, first-score, zero-score, rest, from, has, probed, Rising, RisingIds}
 use Rattle.docset.specs.Bits.{weighed, bit-set}
-use Rattle.docset.specs.Calls.{Told, Moved, Sought, Probed, Bounds, Filled, Counted, CountedAlive, Scored}
+use Rattle.docset.specs.Calls.{Told, Moved, Sought, Probed, Answered, Bounds, Filled, Counted, CountedAlive, Scored}
 use Rattle.docset.specs.declared.docset.SeekDangerResult.{SeekDangerResult}
 use Rattle.docset.specs.declared.docset.SeekDangerResult.the-variants.{Found, SeekLowerBound}
 use Rattle.docset.proofs.Lists.{ended, steady-known}

@@ -1,16 +1,10 @@
 -- A boost.
 use Prim.Native.Nat.{ℕ}
-use mathlib.Core.Bool.{Bool, true, false, cond}
+use mathlib.Core.Bool.{Bool, cond}
 use mathlib.Core.List.{[]}
-use lib.Ieee.{Float, nan, inf, fin, mul, binary32}
+use lib.Ieee.{Float, mul, binary32}
 use Rattle.docset.specs.Meaning.{Meaning, calm}
 use Rattle.scored.specs.Rescored.{retold}
-
--- neither infinite nor not a number
-abbrev pub is-finite : Float → Bool
-is-finite nan = false
-is-finite (inf s) = false
-is-finite (fin s m e) = true
 
 -- every score times b, rounded once to 32 bits
 abbrev pub boosted : Float → Meaning → Meaning

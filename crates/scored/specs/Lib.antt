@@ -1,2 +1,3 @@
 pub mod Rescored
 pub mod Boosts
+pub mod Optional

@@ -1,8 +1,8 @@
 ghost use mathlib.Core.Path.{_≡_};
-ghost use mathlib.Core.Bool.{cond, not};
-ghost use Rattle.std.specs.declared.option.Option.the-variants.{Some, None};
-ghost use Rattle.docset.specs.declared.refusal.Refusal.the-variants.{NotFinite};
-ghost use Rattle.scored.specs.Boosts.{is-finite, boost-means, unless};
+ghost use mathlib.Core.Bool.{not};
+ghost use Rattle.combiner.specs.Scores.{finite, refusal-of};
+ghost use Rattle.scored.specs.Boosts.{boost-means, unless};
+use combiner::score_combiner::is_factor;
 use docset::alive_bitset::AliveBitSet;
 use docset::docset::DocSet;
 use docset::docset::SeekDangerResult;
@@ -18,22 +18,16 @@ pub struct BoostScorer<S> {
     refused: bool,
 }
 
-fn finite(factor: f32) -> bool
-    ensures { λ r. ⌜ r ≡ is-finite factor ⌝ }
-{
-    factor.is_finite()
-}
-
 impl<S: Scorer> BoostScorer<S> {
     // A factor that is infinite or not a number is refused. The set that comes with a refusal is empty,
     // and never asks the one that was moved in.
     pub fn new(underlying: S, boost: f32) -> (Option<Refusal>, BoostScorer<S>)
-        ensures refuses { λ r. ⌜ r .0 ≡ cond (is-finite boost) None (Some NotFinite) ⌝ }
+        ensures refuses { λ r. ⌜ r .0 ≡ refusal-of boost ⌝ }
         ensures below { λ r. ⌜ r .1 .underlying ≡ underlying ⌝ }
         ensures factor { λ r. ⌜ r .1 .boost ≡ boost ⌝ }
-        ensures empty { λ r. ⌜ r .1 .refused ≡ not (is-finite boost) ⌝ }
+        ensures empty { λ r. ⌜ r .1 .refused ≡ not (finite boost) ⌝ }
     {
-        if finite(boost) {
+        if is_factor(boost) {
             (
                 None,
                 BoostScorer {

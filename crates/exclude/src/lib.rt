@@ -1,0 +1,2 @@
+// A document set without the documents of other sets.
+pub mod exclude;

@@ -1,0 +1,11 @@
+use mathlib.Core.Path.{refl}
+use Rattle.combiner.specs.Scores.{combined}
+use Rattle.scored.proofs.Optionals.{filled-opted}
+use Rattle.scored.proofs.reqopt_scorer.RequiredOptionalDocSet.fill_buffer.Needs as need
+
+pub returns : need.returns
+returns g c =
+    record {
+      moves = filled-opted (combined (g .C·ScoreCombiner .taken (g .C·ScoreCombiner .plain)) (g .C·ScoreCombiner .told (g .C·ScoreCombiner .plain))) (c .args .self .now .«score_cache») _ _ (g .O·DocSet .meaning (c .args .self .now .optional)) _ _ _ (c .fill-buffer-filled .ensures);
+      unasked = refl;
+    }
