@@ -28,7 +28,7 @@ scored-along m n k d x a h =
       shrinks = omega (arith, h .shrinks, a .shrinks);
       still = λ s. subst (λ (y : Meaning). Steady y) (sym (h .same (a .still s))) (a .still s);
       rises = λ s. subst (λ (y : Meaning). Rising 0 (y .pairs)) (sym (h .same (a .still s))) (a .rises s);
-      tells = λ s. a .tells s ∙ ap (λ (y : Meaning). first-id (y .pairs)) (sym (h .same (a .still s)))
+      tells = λ s. a .tells s ∙ ap (λ (y : Meaning). first-id (y .pairs)) (sym (h .same (a .still s)));
     }
 
 hits-rest :
@@ -45,18 +45,18 @@ drain-steps m n k o d e x got more i ne h v w =
     record {
       along = along-steps m k o d e a v;
       total = λ s.
-        let p = h .same (i .along .still s) in
-        let q : o .pairs ≡ rest (n .pairs) = ap (λ (y : Meaning). y .pairs) (v .becomes (a .still s)) ∙ ap (λ (y : Meaning). rest (y .pairs)) p in
-        let f = hits-rest (n .pairs) (λ z. ne (i .along .tells s ∙ z)) in
-        let u : x ≡ first-score (n .pairs) = h .tells (i .along .still s) in
-        let t : d ≡ first-id (n .pairs) = i .along .tells s in
-        ap (λ (l : List Hit). l ++ hits (o .pairs)) w ∙
-        append-assoc got (record { bits = toBits binary32 x; id = d } ∷ []) (hits (o .pairs)) ∙
-        ap (λ (y : Float). got ++ (record { bits = toBits binary32 y; id = d } ∷ hits (o .pairs))) u ∙
-        ap (λ (y : ℕ). got ++ (record { bits = toBits binary32 (first-score (n .pairs)); id = y } ∷ hits (o .pairs))) t ∙
-        ap (λ (l : List Pair). got ++ (record { bits = toBits binary32 (first-score (n .pairs)); id = first-id (n .pairs) } ∷ hits l)) q ∙
-        ap (λ (l : List Hit). got ++ l) (sym f) ∙
-        i .total s
+          let p = h .same (i .along .still s) in
+          let q : o .pairs ≡ rest (n .pairs) = ap (λ (y : Meaning). y .pairs) (v .becomes (a .still s)) ∙ ap (λ (y : Meaning). rest (y .pairs)) p in
+          let f = hits-rest (n .pairs) (λ z. ne (i .along .tells s ∙ z)) in
+          let u : x ≡ first-score (n .pairs) = h .tells (i .along .still s) in
+          let t : d ≡ first-id (n .pairs) = i .along .tells s in
+          ap (λ (l : List Hit). l ++ hits (o .pairs)) w ∙
+          append-assoc got (record { bits = toBits binary32 x; id = d } ∷ []) (hits (o .pairs)) ∙
+          ap (λ (y : Float). got ++ (record { bits = toBits binary32 y; id = d } ∷ hits (o .pairs))) u ∙
+          ap (λ (y : ℕ). got ++ (record { bits = toBits binary32 (first-score (n .pairs)); id = y } ∷ hits (o .pairs))) t ∙
+          ap (λ (l : List Pair). got ++ (record { bits = toBits binary32 (first-score (n .pairs)); id = first-id (n .pairs) } ∷ hits l)) q ∙
+          ap (λ (l : List Hit). got ++ l) (sym f) ∙
+          i .total s;
     }
 
 pub drain-falls :

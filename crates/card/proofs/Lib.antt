@@ -1,0 +1,4 @@
+pub mod Bounds
+pub mod Sketches
+pub mod Texts
+pub mod Trips
