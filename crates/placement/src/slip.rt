@@ -1,8 +1,15 @@
 // The learner's slip: of each topic the best exercises that were not seen, best first.
+ghost use mathlib.Core.Path.{_≡_};
+ghost use Rattle.std.specs.Results.{Cases};
+ghost use Rattle.docset.specs.Meaning.{Steady, Known};
+ghost use Rattle.pick.specs.Picks.{hits, Shown};
+ghost use Rattle.placement.specs.Slips.{left-over};
 use card::card::Card;
 use card::card::Topic;
 use combiner::score_combiner::SumCombiner;
 use combiner::score_combiner::SumCombines;
+use docset::docset::DocSet;
+use docset::scorer::Scorer;
 use exclude::exclude::Exclude;
 use exclude::exclude::ExcludeDocSet;
 use exclude::exclude::ExcludeScored;
@@ -32,9 +39,26 @@ pub struct Weighted<'a> {
     weight: f32,
 }
 
-// Leaves the best of a topic in the first places, best first, and answers how many. An exercise has the topic's weight, and the bonus's weight
-// more where the bonus has it too; one that was seen is left out. The ids were checked before: a list that is refused is empty here.
-pub fn pick_best(
+// Of the required documents leaves the best that were not seen in the first places, best first, and answers how many. A document's score is the
+// required one, and the optional one more where the optional set has it too. Without memory to drain the sets all places are as they were.
+pub fn best_left<R: Scorer, O: Scorer, S: DocSet>(
+    heap: Global,
+    required: R,
+    optional: O,
+    seen: S,
+    places: &mut [Hit],
+) -> Result<usize, AllocError>
+    ensures { λ r. ⌜ Cases r (λ count. Steady (R·DocSet .meaning required) → Steady (O·DocSet .meaning optional) → Known (S·DocSet .meaning seen .mark) → Shown (hits (left-over (R·DocSet .meaning required) (O·DocSet .meaning optional) (S·DocSet .meaning seen))) (now (places .entry)) (now (places .exit)) count) (λ _. now (places .exit) ≡ now (places .entry)) ⌝ }
+{
+    let both: RequiredOptionalScorer<R, O, SumCombiner> = RequiredOptionalScorer::new(
+        required,
+        optional,
+    );
+    best_hits(heap, Exclude::new(both, OneSet::new(seen)), places)
+}
+
+// The same of a topic, a bonus and a list of what was seen. The ids were checked before: a list that is refused is empty here.
+fn pick_best(
     heap: Global,
     topic: Weighted,
     bonus: Weighted,
@@ -45,10 +69,8 @@ pub fn pick_best(
     let (_, required) = BoostScorer::new(exercises, topic.weight);
     let (_, extras) = VecDocSet::new(bonus.ids);
     let (_, optional) = BoostScorer::new(extras, bonus.weight);
-    let both: RequiredOptionalScorer<BoostScorer<VecDocSet>, BoostScorer<VecDocSet>, SumCombiner> =
-        RequiredOptionalScorer::new(required, optional);
     let (_, met) = VecDocSet::new(seen);
-    best_hits(heap, Exclude::new(both, OneSet::new(met)), places)
+    best_left(heap, required, optional, met, places)
 }
 
 fn exercises_of(topic: &Topic) -> Weighted<'_> {
