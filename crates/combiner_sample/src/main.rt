@@ -1,5 +1,7 @@
 // Prints what the combiners tell and what `estimate_union` answers for a table of inputs, a row on each line of the
 // input. The file `stdout` has what the Rust answers, so that the run of this program compares the two.
+#![tactic(auto)]
+
 use anyhow::anyhow;
 use combiner::score_combiner::{DisjunctionMaxCombiner, DoNothingCombiner, SumCombiner, combine};
 use combiner::size_hint::estimate_union;

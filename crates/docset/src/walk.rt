@@ -26,7 +26,7 @@ pub trait Leap: Walk {
 }
 
 pub fn seek_by_advance<S: Walk>(set: &mut S, target: u32) -> u32
-    ensures { Sought target (walked set.old) (walked set.new) result }
+    ensures { Sought target (S.walked set.old) (S.walked set.new) result }
 {
     let mut doc = set.here();
     while doc < target && doc != TERMINATED {
@@ -61,7 +61,7 @@ pub fn probe_by_seek<S: Leap>(set: &mut S, target: u32) -> SeekDangerResult
 }
 
 pub fn fill_by_advance<S: Walk>(set: &mut S, buffer: &mut [u32; 64]) -> usize
-    ensures { Filled (walked set.old) (walked set.new) buffer.old buffer.new result }
+    ensures { Filled (S.walked set.old) (S.walked set.new) buffer.old buffer.new result }
 {
     let mut filled: usize = 0;
     let mut doc = set.here();
@@ -74,7 +74,7 @@ pub fn fill_by_advance<S: Walk>(set: &mut S, buffer: &mut [u32; 64]) -> usize
 }
 
 pub fn count_by_advance<S: Walk>(mut set: S, alive_bitset: &AliveBitSet) -> u32
-    ensures { CountedAlive alive_bitset.now.words.now (walked set) result }
+    ensures { CountedAlive alive_bitset.now.words.now (S.walked set) result }
 {
     let mut alive: u32 = 0;
     let mut doc = set.here();
@@ -88,7 +88,7 @@ pub fn count_by_advance<S: Walk>(mut set: S, alive_bitset: &AliveBitSet) -> u32
 }
 
 pub fn count_all_by_advance<S: Walk>(mut set: S) -> u32
-    ensures { Counted (walked set) result }
+    ensures { Counted (S.walked set) result }
 {
     let mut count: u32 = 0;
     let mut doc = set.here();

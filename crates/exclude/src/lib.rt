@@ -1,2 +1,4 @@
 // A document set without the documents of other sets.
+#![tactic(auto)]
+
 pub mod exclude;

@@ -1,3 +1,5 @@
+#![tactic(auto)]
+
 pub mod best_list;
 pub mod heap;
 pub mod hit;

@@ -3,6 +3,8 @@
 // A line is a leaf, then `;`, then calls. The leaf is `v` and its ids, `b` and its number of documents and its words in hexadecimal, or
 // `a` and its number of documents. The calls are d (id), s (score), a (advance), k N (seek), p N (probe), f (block); and last n (count all)
 // or c (count alive) with the words of the alive set in hexadecimal. A line that is empty or begins with `#` is passed over.
+#![tactic(auto)]
+
 mod print;
 mod read;
 

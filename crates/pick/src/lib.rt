@@ -1,4 +1,6 @@
 // What a box shows of a set: its best documents, best first.
+#![tactic(auto)]
+
 ghost use Rattle.std.specs.Prelude.{◌≡◌, IfOk, MatchResult};
 ghost use Rattle.docset.specs.Meaning.{Steady};
 ghost use Rattle.pick.specs.Picks.{hits, Shown};

@@ -1,4 +1,6 @@
 // The program of a placement box: reads a card and goes through its topics.
+#![tactic(auto)]
+
 mod lesson;
 mod slip;
 

@@ -1,3 +1,5 @@
 // The documents that at least so many of several sets list.
+#![tactic(auto)]
+
 pub mod disjunction;
 mod group;

@@ -5,7 +5,7 @@ use Rattle.docset.proofs.walk.count_by_advance.Given as goal
 
 abbrev pub invariant-loop-doc : goal.invariant-loop-doc
 invariant-loop-doc g l =
-    Counting (λ d. cond (bit_set l.alive-bitset.words.now d) 1 0) (g.S.Walk.walked l.initial.set) (g.S.Walk.walked l.set) l.doc l.alive
+    Counting (λ d. cond (bit_set l.alive_bitset.words.now d) 1 0) (g.S.Walk.walked l.initial.set) (g.S.Walk.walked l.set) l.doc l.alive
 
 abbrev pub decreases-loop-doc : goal.decreases-loop-doc
 decreases-loop-doc g l = ahead (g.S.Walk.walked l.set) l.doc

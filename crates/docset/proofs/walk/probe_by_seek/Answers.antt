@@ -7,8 +7,8 @@ returns-then-target-ge-TERMINATED g c = probe_past _ _ c.if-target-ge-TERMINATED
 pub returns-then-target-doc : goal.returns-then-target-doc
 returns-then-target-doc g c =
     probe_sought _ _ _ _ _ c.if-target-ge-TERMINATED.false c.here-doc.ensures.rises
-    (sought_already _ _ _ c.here-doc.ensures c.if-target-doc.true) c.found-at.ensures
+    (sought_already _ _ _ c.here-doc.ensures c.if-target-doc.true) c.found_at.ensures
 
 pub returns : goal.returns
 returns g c =
-    probe_sought _ _ _ _ _ c.if-target-ge-TERMINATED.false c.here-doc.ensures.rises c.leap-doc.ensures c.found-at-2.ensures
+    probe_sought _ _ _ _ _ c.if-target-ge-TERMINATED.false c.here-doc.ensures.rises c.leap-doc.ensures c.found_at-2.ensures
