@@ -7,7 +7,7 @@ returns g c =
     let v = c.args.self.now in
     let n = length-map v.items g.S.DocSet.meaning in
     record {
-      counts = omega (arith, v.ok, v.small, n, c.as-slice.ensures.len);
+      counts = omega (arith, v.ok, v.small, n, c.as_slice.ensures.len);
       guessed = length-map v.items g.S.DocSet.hint ∙ sym n;
       priced = length-map v.items g.S.DocSet.price ∙ sym n;
     }
