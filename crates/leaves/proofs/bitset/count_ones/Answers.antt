@@ -13,7 +13,7 @@ overflow-add-count c =
 
 pub loop-place-preserved : goal.loop-place-preserved
 loop-place-preserved c =
-    let f = c.type-inv.words c.loop-place.place in
+    let f = c.ok.words c.loop-place.place in
     let l = ones-le 64 (get_or c.args.words.now c.loop-place.place 0) (omega (arith, f)) in (
       ap (λ n. n + ones (get_or c.args.words.now c.loop-place.place 0)) c.loop-place.invariant.0 ∙
           rw add-one (sym (ones_more c.args.words.now c.loop-place.place c.loop-place-test.true)),

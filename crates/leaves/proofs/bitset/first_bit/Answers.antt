@@ -20,7 +20,7 @@ loop-place-preserved c =
     let e : suc c.loop-place.place * 64 ≡ (c.loop-place.place + 1) * 64 + 0 = omega arith in (
       omega arith,
       c.loop-place.invariant.1 ∙
-          word_passed c.args.words.now c.loop-place.place c.loop-place.bit c.loop-place.invariant.0 (sym c.in-default.ensures) ∙
+          word_passed c.args.words.now c.loop-place.place c.loop-place.bit c.loop-place.invariant.0 (sym c.in_default.ensures) ∙
           ap (bits_from c.args.words.now) e,
     )
 

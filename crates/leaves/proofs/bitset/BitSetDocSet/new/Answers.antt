@@ -30,9 +30,9 @@ returns-in-Some c =
 
 pub returns-in-None : goal.returns-in-None
 returns-in-None c =
-    let k = kept_words c.args.docs.now c.args.max-value (sym c.in-None.ensures) in
+    let k = kept_words c.args.docs.now c.args.max_value (sym c.in-None.ensures) in
     record {
       answer = c.in-None.ensures;
       over = refl;
-      fresh = sym (next_cut c.args.docs.now c.args.max-value k.small (kept_clear c.args.docs.now c.args.max-value k.past) _ _ c.doc-from-doc.ensures);
+      fresh = sym (next_cut c.args.docs.now c.args.max_value k.small (kept_clear c.args.docs.now c.args.max_value k.past) _ _ c.doc_from-doc.ensures);
     }

@@ -23,5 +23,5 @@ pub returns : goal.returns
 returns c =
     let s = c.args.self.now in
     bits-sought s.docs.now s.max_value s.small s.clear c.args.target s.doc _ (omega (arith, c.if-target-self.false))
-    (next_stands s.docs.now s.max_value s.small s.clear _ _ c.doc-from-self.ensures)
-    (next_cut s.docs.now s.max_value s.small s.clear _ _ c.doc-from-self.ensures)
+    (next_stands s.docs.now s.max_value s.small s.clear _ _ c.doc_from-self.ensures)
+    (next_cut s.docs.now s.max_value s.small s.clear _ _ c.doc_from-self.ensures)

@@ -18,4 +18,4 @@ pub returns : goal.returns
 returns c =
     let s = c.args.self.now in
     bits-moved s.docs.now s.max_value s.small s.clear s.doc _ s.current c.if-self-eq-TERMINATED.false
-    (rw add-one at c.doc-from-self.ensures)
+    (rw add-one at c.doc_from-self.ensures)

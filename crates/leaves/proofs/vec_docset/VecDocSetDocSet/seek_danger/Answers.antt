@@ -3,4 +3,4 @@ use Rattle.docset.proofs.Probes.{always}
 use Rattle.leaves.proofs.vec_docset.VecDocSetDocSet.seek_danger.Goals as goal
 
 pub returns : goal.returns
-returns c = always _ _ _ _ refl c.probe-by-seek.ensures
+returns c = always _ _ _ _ refl c.probe_by_seek.ensures
