@@ -3,6 +3,6 @@ use Rattle.card.proofs.card.parse.Goals as goal
 
 pub returns : goal.returns
 returns c = record {
-  says = c.read-card.ensures;
-  limits = parses_limited c.args.text.now c.read-card.result c.read-card.ensures;
+  says = c.read_card.ensures;
+  limits = parses_limited c.args.text.now c.read_card.result c.read_card.ensures;
 }

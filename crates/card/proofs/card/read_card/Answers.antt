@@ -45,9 +45,9 @@ loop-bytes-preserved c =
       omega (arith, c.loop-bytes.invariant.1, ap length split.0),
       c.loop-bytes.invariant.2 ∙ ap (read_lines c.loop-bytes.line (sketch c.loop-bytes.card)) split.0 ∙
           line_taken c.loop-bytes.line (sketch c.loop-bytes.card) (sketch c.put.new.self) c.in-Some.bytes.now
-          (lines c.in-Some.rest.now) (meant c.in-ok-statement.statement)
-          c.in-ok-statement.ensures
-          c.in-ok-put.ensures,
+          (lines c.in-Some.rest.now) (meant c.in_ok-statement.statement)
+          c.in_ok-statement.ensures
+          c.in_ok-put.ensures,
     )
 
 pub returns-then-is-empty : goal.returns-then-is-empty
@@ -60,7 +60,7 @@ returns-then-is-empty c =
 
 pub returns : goal.returns
 returns c =
-    let some = eqb-false _ 0 (sym c.if-is-empty.ensures) in
-    c.loop-bytes.invariant.2 ∙ ap (read_lines c.loop-bytes.line (sketch c.loop-bytes.card)) c.in-default.ensures ∙
+    let some = eqb-false _ 0 (sym c.if-is_empty.ensures) in
+    c.loop-bytes.invariant.2 ∙ ap (read_lines c.loop-bytes.line (sketch c.loop-bytes.card)) c.in_default.ensures ∙
     ends_some c.loop-bytes.line (sketch c.loop-bytes.card)
     (omega (arith, length-map (vec_items c.loop-bytes.card.topics) plain, c.loop-bytes.card.topics.ok.0, some))

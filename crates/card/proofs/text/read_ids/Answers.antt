@@ -7,9 +7,9 @@ use Rattle.card.proofs.text.read_ids.Goals as goal
 
 pub returns : goal.returns
 returns c = record {
-  value = c.numbers-of.ensures;
+  value = c.numbers_of.ensures;
   back = λ ns fit e.
-      IfOk-weaker c.numbers-of.result (λ o. option_map vec_items o ≡ ids_of c.args.bytes.now) (λ o. option_map vec_items o ≡ Some ns)
+      IfOk-weaker c.numbers_of.result (λ o. option_map vec_items o ≡ ids_of c.args.bytes.now) (λ o. option_map vec_items o ≡ Some ns)
       (λ o h. h ∙ ap ids_of e ∙ read_back ns fit)
-      c.numbers-of.ensures;
+      c.numbers_of.ensures;
 }

@@ -14,10 +14,10 @@ pub loop-byte-preserved : goal.loop-byte-preserved
 loop-byte-preserved c =
     c.loop-byte.invariant ∙
     name_more_at c.args.bytes.now c.loop-byte.byte-index (string_bytes c.loop-byte.name)
-    (string_bytes c.push.new.self) (omega arith) c.if-not-is-name-byte.ensures.value
-    (c.in-ok-push.ensures.bytes ∙
+    (string_bytes c.push.new.self) (omega arith) c.if-not-is_name_byte.ensures.value
+    (c.in_ok-push.ensures.bytes ∙
     ap (λ l. string_bytes c.loop-byte.name ++ l)
-    (c.push.ensures.ascii (omega (arith, c.from.ensures, c.if-not-is-name-byte.ensures.ascii tt)) ∙ ap (λ x. x ∷ []) c.from.ensures))
+    (c.push.ensures.ascii (omega (arith, c.from.ensures, c.if-not-is_name_byte.ensures.ascii tt)) ∙ ap (λ x. x ∷ []) c.from.ensures))
 
 pub returns : goal.returns
 returns c =

@@ -18,11 +18,11 @@ returns-then-not-is-empty c =
 
 pub loop-rest-preserved : goal.loop-rest-preserved
 loop-rest-preserved c =
-    let less : length c.in-Some.rest.now < length c.loop-rest.left.now = MatchOption-at_some (Unit {0}) (λ x. length x.now < length c.loop-rest.left.now) c.in-Some.rest c.in-Some.is c.split-once.ensures.shorter in (
+    let less : length c.in-Some.rest.now < length c.loop-rest.left.now = MatchOption-at_some (Unit {0}) (λ x. length x.now < length c.loop-rest.left.now) c.in-Some.rest c.in-Some.is c.split_once.ensures.shorter in (
       c.loop-rest.invariant.0 ∙
-          field_skip c.loop-rest.left.now c.split-once.result.0.now (Some c.in-Some.rest.now) c.split-once.ensures.front
-          (sym (ap (option_map (λ x. x.now)) c.in-Some.is) ∙ c.split-once.ensures.back)
-          (eqb-true _ 0 (sym c.if-not-is-empty.ensures)),
+          field_skip c.loop-rest.left.now c.split_once.result.0.now (Some c.in-Some.rest.now) c.split_once.ensures.front
+          (sym (ap (option_map (λ x. x.now)) c.in-Some.is) ∙ c.split_once.ensures.back)
+          (eqb-true _ 0 (sym c.if-not-is_empty.ensures)),
       omega (arith, c.loop-rest.invariant.1, less),
     )
 
@@ -35,10 +35,10 @@ returns-then-is-empty c =
 
 pub returns-in-None : goal.returns-in-None
 returns-in-None c =
-    let some : 0 < length c.split-once.result.0.now = omega (arith, eqb-false _ 0 (sym c.if-is-empty.ensures)) in (
+    let some : 0 < length c.split_once.result.0.now = omega (arith, eqb-false _ 0 (sym c.if-is_empty.ensures)) in (
       c.loop-rest.invariant.0 ∙
-          field_first c.loop-rest.left.now c.split-once.result.0.now None c.split-once.ensures.front
-          (sym (ap (option_map (λ x. x.now)) c.in-None.is) ∙ c.split-once.ensures.back)
+          field_first c.loop-rest.left.now c.split_once.result.0.now None c.split_once.ensures.front
+          (sym (ap (option_map (λ x. x.now)) c.in-None.is) ∙ c.split_once.ensures.back)
           some,
-      omega (arith, c.loop-rest.invariant.1, before_short 32 c.loop-rest.left.now, ap length c.split-once.ensures.front),
+      omega (arith, c.loop-rest.invariant.1, before_short 32 c.loop-rest.left.now, ap length c.split_once.ensures.front),
     )

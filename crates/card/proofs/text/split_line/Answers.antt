@@ -12,17 +12,17 @@ returns-then-is-empty c = ap lines (nil_from_length c.args.bytes.now (eqb-true _
 
 pub returns-in-Some : goal.returns-in-Some
 returns-in-Some c = (
-  line_parts c.args.bytes.now c.split-once.result.0.now (Some c.in-Some.rest.now) c.split-once.ensures.front
-      (sym (ap (option_map (λ x. x.now)) c.in-Some.is) ∙ c.split-once.ensures.back),
-  MatchOption-at_some (Unit {0}) (λ x. length x.now < length c.args.bytes.now) c.in-Some.rest c.in-Some.is c.split-once.ensures.shorter,
+  line_parts c.args.bytes.now c.split_once.result.0.now (Some c.in-Some.rest.now) c.split_once.ensures.front
+      (sym (ap (option_map (λ x. x.now)) c.in-Some.is) ∙ c.split_once.ensures.back),
+  MatchOption-at_some (Unit {0}) (λ x. length x.now < length c.args.bytes.now) c.in-Some.rest c.in-Some.is c.split_once.ensures.shorter,
 )
 
 pub returns-in-None : goal.returns-in-None
 returns-in-None c =
-    let none = sym (ap (option_map (λ x. x.now)) c.in-None.is) ∙ c.split-once.ensures.back in
-    let all = c.split-once.ensures.front ∙ whole_line 10 c.args.bytes.now none in
-    let some : 0 < length c.args.bytes.now = omega (arith, eqb-false _ 0 (sym c.if-is-empty.ensures)) in (
-      line_parts c.args.bytes.now c.split-once.result.0.now None c.split-once.ensures.front none ∙
-          closed_some c.split-once.result.0.now (omega (arith, ap length all)),
+    let none = sym (ap (option_map (λ x. x.now)) c.in-None.is) ∙ c.split_once.ensures.back in
+    let all = c.split_once.ensures.front ∙ whole_line 10 c.args.bytes.now none in
+    let some : 0 < length c.args.bytes.now = omega (arith, eqb-false _ 0 (sym c.if-is_empty.ensures)) in (
+      line_parts c.args.bytes.now c.split_once.result.0.now None c.split_once.ensures.front none ∙
+          closed_some c.split_once.result.0.now (omega (arith, ap length all)),
       some,
     )

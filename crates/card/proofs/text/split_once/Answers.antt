@@ -8,16 +8,16 @@ split-at-requires c = omega (arith, c.count-before-at.ensures, before_short c.ar
 
 pub returns-in-Some : goal.returns-in-Some
 returns-in-Some c = record {
-  front = c.split-at.ensures.front ∙ ap (λ n. take n c.args.bytes.now) c.count-before-at.ensures ∙ take_before c.args.byte c.args.bytes.now;
-  back = sym (ap tail c.in-Some.ensures.cases.0) ∙ ap tail c.split-at.ensures.back ∙ ap (λ n. tail (drop n c.args.bytes.now)) c.count-before-at.ensures ∙
+  front = c.split_at.ensures.front ∙ ap (λ n. take n c.args.bytes.now) c.count_before-at.ensures ∙ take_before c.args.byte c.args.bytes.now;
+  back = sym (ap tail c.in-Some.ensures.cases.0) ∙ ap tail c.split_at.ensures.back ∙ ap (λ n. tail (drop n c.args.bytes.now)) c.count_before-at.ensures ∙
       drop_before c.args.byte c.args.bytes.now;
-  shorter = omega (arith, c.in-Some.ensures.cases.1, c.split-at.ensures.back_len);
+  shorter = omega (arith, c.in-Some.ensures.cases.1, c.split_at.ensures.back_len);
 }
 
 pub returns-in-None : goal.returns-in-None
 returns-in-None c = record {
-  front = c.split-at.ensures.front ∙ ap (λ n. take n c.args.bytes.now) c.count-before-at.ensures ∙ take_before c.args.byte c.args.bytes.now;
-  back = sym (ap tail (nil_from_length _ c.in-None.ensures.cases)) ∙ ap tail c.split-at.ensures.back ∙ ap (λ n. tail (drop n c.args.bytes.now)) c.count-before-at.ensures ∙
+  front = c.split_at.ensures.front ∙ ap (λ n. take n c.args.bytes.now) c.count_before-at.ensures ∙ take_before c.args.byte c.args.bytes.now;
+  back = sym (ap tail (nil_from_length _ c.in-None.ensures.cases)) ∙ ap tail c.split_at.ensures.back ∙ ap (λ n. tail (drop n c.args.bytes.now)) c.count_before-at.ensures ∙
       drop_before c.args.byte c.args.bytes.now;
   shorter = tt;
 }

@@ -9,4 +9,4 @@ pub returns : goal.returns
 returns c =
     topic_fits c.args.line c.args.self.now c.args.topic (vec_items c.push.new.self)
     (omega (arith, c.if-len-ge32.false, c.len.ensures, c.args.self.now.topics.ok.0))
-    c.in-default.ensures.items
+    c.in_default.ensures.items
