@@ -10,7 +10,7 @@ returns-then-not-same-answer g c =
 pub loop-call-preserved : goal.loop-call-preserved
 loop-call-preserved g c =
     agree_more _ _ _ _ c.args.calls.now c.loop-call.call-index c.loop-call.invariant _ _ _ _ _ (omega arith) c.ask-answer.ensures.keeps c.ask-other.ensures.keeps
-    (c.if-not-same-answer.ensures.0 refl)
+    (c.if-not-same_answer.ensures.0 refl)
 
 pub returns : goal.returns
 returns g c = agree_all _ _ _ _ c.args.calls.now c.loop-call.call-index c.loop-call.invariant (omega arith)

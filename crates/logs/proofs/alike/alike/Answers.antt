@@ -7,7 +7,7 @@ loop-doc-init g c = starts _ _ _ _ c.doc-doc.ensures c.doc-other.ensures
 
 pub loop-doc-preserved : goal.loop-doc-preserved
 loop-doc-preserved g c =
-    steps _ _ _ _ _ _ c.loop-doc.invariant _ _ _ _ c.score-score.ensures c.score-other-score.ensures c.loop-doc-test.true c.if-doc-other.false (c.if-not-same-score.ensures.0 refl) _ _ _ _ c.advance-doc.ensures c.advance-other.ensures
+    steps _ _ _ _ _ _ c.loop-doc.invariant _ _ _ _ c.score-score.ensures c.score-other_score.ensures c.loop-doc-test.true c.if-doc-other.false (c.if-not-same_score.ensures.0 refl) _ _ _ _ c.advance-doc.ensures c.advance-other.ensures
 
 pub loop-doc-smaller : goal.loop-doc-smaller
 loop-doc-smaller g c =

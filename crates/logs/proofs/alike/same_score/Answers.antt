@@ -10,8 +10,8 @@ by_bits a b h k e = sym (of_bits-to_bits binary32 a h) ∙ ap (of_bits binary32)
 
 pub returns : goal.returns
 returns c =
-    let x = c.f32-to-bits-with-nan in
-    let y = c.f32-to-bits-with-nan-2 in (
-      (λ t. by_bits c.args.a c.args.b (rw c.well-formed.0.1 tt) (rw c.well-formed.1.0.1 tt) (sym x.ensures ∙ eqb→eq _ _ (rw t tt) ∙ y.ensures)),
+    let x = c.f32_to_bits_with_nan in
+    let y = c.f32_to_bits_with_nan-2 in (
+      (λ t. by_bits c.args.a c.args.b (rw c.good.0.1 tt) (rw c.good.1.0.1 tt) (sym x.ensures ∙ eqb→eq _ _ (rw t tt) ∙ y.ensures)),
       (λ e. let f : x.result ≡ y.result = x.ensures ∙ ap (to_bits binary32) e ∙ sym y.ensures in rw f (is_true _ (eqb_refl _))),
     )

@@ -8,7 +8,7 @@ pub loop-call-preserved : goal.loop-call-preserved
 loop-call-preserved g c = (
   search rules,
   search rules,
-  runs_more (g.S.DocSet.meaning c.args.set.now) (g.S.DocSet.meaning c.loop-call.set) (g.S.DocSet.meaning c.ask-answer.new.set) c.args.calls.now c.loop-call.call-index _ (vec_items c.loop-call.answers) (vec_items c.push-reserved.new.self) c.ask-answer.result (omega arith) c.push-reserved.ensures.items c.loop-call.invariant.2 c.ask-answer.ensures.keeps,
+  runs_more (g.S.DocSet.meaning c.args.set.now) (g.S.DocSet.meaning c.loop-call.set) (g.S.DocSet.meaning c.ask-answer.new.set) c.args.calls.now c.loop-call.call-index _ (vec_items c.loop-call.answers) (vec_items c.push_reserved.new.self) c.ask-answer.result (omega arith) c.push_reserved.ensures.items c.loop-call.invariant.2 c.ask-answer.ensures.keeps,
 )
 
 pub returns : goal.returns

@@ -5,7 +5,7 @@ use Rattle.logs.proofs.replay.replay_to_end.Goals as goal
 
 pub returns-in-Keep : goal.returns-in-Keep
 returns-in-Keep g c =
-    (g.S.DocSet.meaning c.replay.new.set, simp c.in-Keep.is c.in-ok-answers.ensures)
+    (g.S.DocSet.meaning c.replay.new.set, simp c.in-Keep.is c.in_ok-answers.ensures)
 
 pub returns-in-ok-push : goal.returns-in-ok-push
 returns-in-ok-push g c = (
