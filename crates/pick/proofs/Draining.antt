@@ -1,12 +1,12 @@
 -- Draining a set by reading a score and going on: what holds at each turn.
-use Rattle.std.proofs.Common.{◌≡◌, ℕ, suc, ◌+◌, ◌<◌, ◌≤◌, List, [], ◌∷◌, ◌++◌, length, sym, refl, ap, ◌∙◌, subst, append_assoc, append-nil, arith}
+use Rattle.std.proofs.Common.{◌≡◌, ℕ, ◌<◌, List, [], ◌∷◌, ◌++◌, sym, refl, ap, ◌∙◌, subst, append_assoc, append-nil, arith}
 use lib.Ieee.{Float, binary32, to_bits}
 use Rattle.docset.specs.Meaning.{Meaning, Pair, TERM, Steady, first_id, first_score, rest, Rising}
 use Rattle.docset.specs.Calls.{Told, Moved, Scored}
 use Rattle.docset.proofs.Lists.{ended}
 use Rattle.docset.proofs.Walking.{Along, along_starts, along_steps, ahead, falls}
 use Rattle.heap.specs.declared.hit.Hit.{Hit}
-use Rattle.pick.specs.Picks.{hit_of, hits}
+use Rattle.pick.specs.Picks.{hits}
 
 -- n is what is left of m, stands at d, and the hits of what was passed are in got
 pub record Draining (m n : Meaning) (d : ℕ) (got : List Hit) : Type 0 where

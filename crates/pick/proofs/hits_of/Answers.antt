@@ -1,4 +1,4 @@
-use Rattle.std.proofs.Common.{◌≡◌, List, [], ◌∷◌, ◌++◌, vec_items, ap, ◌∙◌, rules}
+use Rattle.std.proofs.Common.{◌≡◌, [], ◌∷◌, ◌++◌, vec_items, ap, ◌∙◌, rules}
 use Rattle.heap.specs.declared.hit.Hit.{Hit}
 use Rattle.pick.proofs.Draining.{drain_steps}
 use Rattle.pick.proofs.hits_of.Goals as goal
