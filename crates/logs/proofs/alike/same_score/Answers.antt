@@ -1,6 +1,6 @@
 use lib.Ieee.{Float, binary32, to_bits, of_bits, fits}
 use lib.Ieee.Bits.{of_bits-to_bits, is_true}
-use Rattle.std.proofs.Common.{◌≡◌, T, eqb, sym, ap, ◌∙◌, eqb→eq}
+use Rattle.std.proofs.Common.{◌≡◌, T, sym, ap, ◌∙◌, eqb→eq}
 use lib.Dec.{eqb_refl}
 use Rattle.logs.proofs.alike.same_score.Goals as goal
 
