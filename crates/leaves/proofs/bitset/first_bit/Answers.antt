@@ -1,4 +1,4 @@
-use Rattle.std.proofs.Common.{◌≡◌, ℕ, suc, ◌+◌, ◌*◌, get_or, sym, ap, ◌∙◌, arith}
+use Rattle.std.proofs.Common.{◌≡◌, suc, ◌+◌, ◌*◌, get_or, sym, ap, ◌∙◌, arith}
 use Rattle.leaves.specs.Bits.{bits_from, first_of, bit_of}
 use Rattle.leaves.proofs.Ranges.{some_between}
 use Rattle.leaves.proofs.Words.{word_passed, word_found, words_end}

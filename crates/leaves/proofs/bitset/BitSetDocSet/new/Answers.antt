@@ -1,4 +1,4 @@
-use Rattle.std.proofs.Common.{[], sym, refl, ◌∙◌, arith}
+use Rattle.std.proofs.Common.{sym, refl, ◌∙◌, arith}
 use Rattle.leaves.proofs.Ranges.{between_end}
 use Rattle.leaves.proofs.BitSets.{kept_words, kept_clear, next_stands, next_cut}
 use Rattle.leaves.proofs.bitset.BitSetDocSet.new.Goals as goal

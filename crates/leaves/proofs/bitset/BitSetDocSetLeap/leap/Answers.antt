@@ -15,7 +15,7 @@ returns-then-target-self-2 c =
 pub invariant_of-self-2 : goal.invariant_of-self-2
 invariant_of-self-2 c =
     let s = c.args.self.now in
-    record { small = s.small; few = s.few; clear = s.clear; counted = s.counted; current = next_stands s.docs.now s.max_value s.small s.clear _ _ c.doc_from-self.ensures; }
+    record { small = s.small; few = s.few; clear = s.clear; counted = s.counted; current = next_stands s.docs.now s.max_value s.small s.clear _ _ c.doc_from-self.ensures }
 
 pub returns : goal.returns
 returns c =

@@ -1,4 +1,4 @@
-use Rattle.std.proofs.Common.{◌≡◌, add-one}
+use Rattle.std.proofs.Common.{add-one}
 use Rattle.leaves.proofs.BitSets.{bits-moved, bits_stay, next_stands}
 use Rattle.leaves.proofs.bitset.BitSetDocSetWalk.step.Goals as goal
 
@@ -10,7 +10,7 @@ returns-then-self-eq-TERMINATED c =
 pub invariant_of-self : goal.invariant_of-self
 invariant_of-self c =
     let s = c.args.self.now in
-    record { small = s.small; few = s.few; clear = s.clear; counted = s.counted; current = next_stands s.docs.now s.max_value s.small s.clear _ _ c.doc_from-self.ensures; }
+    record { small = s.small; few = s.few; clear = s.clear; counted = s.counted; current = next_stands s.docs.now s.max_value s.small s.clear _ _ c.doc_from-self.ensures }
 
 pub returns : goal.returns
 returns c =
