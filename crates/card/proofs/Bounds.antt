@@ -1,17 +1,17 @@
 -- The limits of a card that is read, and the line that a fault names.
-use Rattle.std.proofs.Common.{◌≡◌, ℕ, suc, ◌+◌, ◌<◌, ◌≤◌, Bool, true, false, cond, ◌&&◌, eqb, ltb, leb, ◌⊎◌, List, [], ◌∷◌, ◌++◌, length, get_or, is_some, Some, None, Ok, Err, Option, Result, sym, refl, ap, ◌∙◌, subst, inl, inr, ⊎_elim, arith}
+use Rattle.std.proofs.Common.{◌≡◌, ℕ, suc, ◌+◌, ◌≤◌, Bool, true, false, cond, ◌&&◌, eqb, ltb, leb, List, [], ◌∷◌, ◌++◌, length, get_or, is_some, Some, None, Ok, Err, Option, Result, refl, subst, inl, inr, arith}
 use Rattle.std.proofs.lemmas.List.{length_push}
-use Rattle.std.proofs.lemmas.Bool.{ltb-true, ltb-false, leb-true, and_parts}
+use Rattle.std.proofs.lemmas.Bool.{ltb-true, leb-true, and_parts}
 use Rattle.std.specs.Option.{ok_or, option_map}
 use Rattle.card.specs.declared.card.Card.{Card}
 use Rattle.card.specs.declared.fault.CardFault.{CardFault}
-use Rattle.card.specs.declared.fault.CardFault.TheVariants.{BadName, BadNumber, BadWeight, NoTopics, OutOfRange, TooManyTopics, Twice}
+use Rattle.card.specs.declared.fault.CardFault.TheVariants.{BadName, BadNumber, BadWeight, NoTopics, OutOfRange, TooManyTopics}
 use Rattle.card.specs.declared.statement.Word.{Word}
 use Rattle.card.specs.declared.statement.Word.TheVariants as word
 use Rattle.card.specs.Text.{fields, before, after, lines, number, weight, name, ids_of}
 use Rattle.card.specs.Faults.{line_of}
 use Rattle.card.specs.Statements.{Plain, Said, nothing, topic, bonus, seen, pick, at_least, weight_in, topic_of, topic_in, seen_in, in_range, count_in, said_as, said_of, said_in, said, word_of}
-use Rattle.card.specs.Cards.{Sketch, blank, sketch, sketched, with_topic, with_extra, with_seen, with_shown, with_least, once, taken, next, read_lines, card_of, Parses, On, OnIf, AllOn, Limits, Limited}
+use Rattle.card.specs.Cards.{Sketch, blank, sketched, with_topic, with_extra, with_seen, with_shown, with_least, once, taken, next, read_lines, card_of, Parses, On, OnIf, AllOn, Limited}
 
 -- ---- what a line says
 

@@ -1,10 +1,10 @@
 -- Numbers that are written in decimal are read back.
-use Rattle.std.proofs.Common.{◌≡◌, ℕ, ◌+◌, ◌-◌, ◌*◌, ◌^◌, ◌<◌, ◌≤◌, Bool, true, false, cond, ◌&&◌, eqb, ltb, leb, List, [], ◌∷◌, ◌++◌, length, Some, None, decimal, Option, sym, refl, ap, ◌∙◌, subst, append-nil, arith, rules}
+use Rattle.std.proofs.Common.{◌≡◌, ℕ, ◌<◌, true, ◌&&◌, ltb, leb, List, [], ◌∷◌, ◌++◌, length, Some, None, decimal, Option, sym, refl, ap, ◌∙◌, arith, rules}
 use Rattle.std.proofs.lemmas.Fmt.{digits_decimal, digits_value-decimal, decimal_nonempty}
 use Rattle.std.proofs.lemmas.Str.Parse.{IsNumeralModel, numerals_by_fold}
 use Rattle.std.proofs.lemmas.Bool.{lt-ltb, cond-true, and_parts, and_from, leb-true}
 use Rattle.card.specs.Text.{digit, all_digits, value_after, is_number, number, before, after, fields, numbers, put_first, ids_of, written, Fit}
-use Rattle.card.proofs.Texts.{before_later, after_later, field_first, later}
+use Rattle.card.proofs.Texts.{before_later, after_later, field_first}
 
 own : IsNumeralModel (λ ds. all_digits ds ≡ true) (value_after 0)
 own = numerals_by_fold (λ ds. all_digits ds ≡ true) (search rules) value_after (search rules)

@@ -145,7 +145,7 @@ fn seen_at(
     ids_at(heap, line, ids)
 }
 
-// What stands behind `pick` or `at_least`: a number from 1 to `most`.
+// What stands behind `pick` or `at-least`: a number from 1 to `most`.
 fn count_at(line: usize, most: u32, bytes: &[u8], ids: Option<&[u8]>) -> Result<usize, CardFault>
     ensures { result ≡ count_in line most (fields bytes.now) (option_map (λ x. x.now) ids.entry) }
 {

@@ -1,5 +1,5 @@
 -- The estimate of a union is at most the number of documents.
-use Rattle.std.proofs.Common.{◌≡◌, ℕ, ◌-◌, ◌*◌, ◌/◌, ◌^◌, ◌<◌, ◌≤◌, Bool, true, false, cond, T, ℤ, sym, refl, ap, ◌∙◌, subst, mul_comm, mul-one, mul_right_comm, le_of_mul-le-mul_right, arith, le→leb, ltb-false}
+use Rattle.std.proofs.Common.{◌≡◌, ℕ, ◌-◌, ◌*◌, ◌/◌, ◌^◌, ◌<◌, ◌≤◌, Bool, true, false, cond, T, sym, refl, ap, ◌∙◌, subst, mul_comm, mul-one, mul_right_comm, le_of_mul-le-mul_right, arith, le→leb, ltb-false}
 use native.Mathlib.Nat.{div-le_of_le-mul, min-le_left}
 use lib.Ieee.{Float, nan, inf, fin, binary64, up, down, lt, is_nan, of_int, of_bits, in_float, to_unsigned}
 use lib.Ieee.Back.{round_whole, unsigned_back}

@@ -1,6 +1,6 @@
 -- Lemmas on lists of pairs: order, length, `from`, `has`, and steady meanings.
-use Rattle.std.proofs.Common.{◌≡◌, ℕ, zero, suc, ◌+◌, ◌<◌, ◌≤◌, Bool, true, false, cond, ◌&&◌, ◌||◌, eqb, ltb, leb, ◌⊎◌, List, [], ◌∷◌, length, sym, refl, ap, ◌∙◌, subst, inl, inr, ⊎_elim, arith}
-use Rattle.std.proofs.lemmas.Bool.{lt-ltb, le-ltb, le-leb, ltb-true, leb-true, cond-true, cond-false, cases_lt, cases_eq, eq-eqb, ne_eqb, and_parts, and_from}
+use Rattle.std.proofs.Common.{◌≡◌, ℕ, suc, ◌+◌, ◌<◌, ◌≤◌, Bool, true, false, cond, ◌&&◌, ◌||◌, ltb, leb, ◌⊎◌, List, [], ◌∷◌, length, sym, refl, ap, ◌∙◌, subst, inl, inr, ⊎_elim, arith}
+use Rattle.std.proofs.lemmas.Bool.{lt-ltb, le-ltb, le-leb, ltb-true, leb-true, cond-true, cond-false, cases_lt, eq-eqb, ne_eqb, and_parts, and_from}
 use Rattle.docset.specs.Meaning.{Meaning, Mark, steady, astray, lost, is_steady, Pair, TERM, Steady, Known, calm, ids, first_id, rest, from, has, probed, Rising, RisingIds, rises_from}
 
 -- ---- meanings

@@ -1,7 +1,7 @@
 -- Probes by `doc` and `seek`.
 use Rattle.std.proofs.Common.{◌≡◌, ℕ, suc, ◌<◌, ◌≤◌, cond, eqb, List, length, sym, refl, ap, ◌∙◌, subst, inl, inr, ⊎_elim, arith}
 use Rattle.std.proofs.lemmas.Bool.{cond-true, cond-false, cases_eq, eq-eqb, ne_eqb}
-use Rattle.docset.specs.Meaning.{Meaning, Pair, TERM, Steady, Known, calm, first_id, from, probed, Rising}
+use Rattle.docset.specs.Meaning.{Meaning, Pair, TERM, Steady, Known, calm, first_id, from, Rising}
 use Rattle.docset.specs.Calls.{Told, Sought, Probed, ProbedSteady}
 use Rattle.docset.specs.declared.docset.SeekDangerResult.{SeekDangerResult}
 use Rattle.docset.specs.declared.docset.SeekDangerResult.TheVariants.{Found, SeekLowerBound}

@@ -1,5 +1,5 @@
 -- A list without the ids of other lists.
-use Rattle.std.specs.Prelude.{◌≡◌, ℕ, ◌≤◌, Bool, true, false, cond, not, ◌&&◌, List, [], ◌∷◌, length, drop}
+use Rattle.std.specs.Prelude.{◌≡◌, ℕ, ◌≤◌, Bool, true, cond, not, ◌&&◌, List, [], ◌∷◌, length, drop}
 use Rattle.docset.specs.Meaning.{Meaning, lost, is_steady, Pair, TERM, Steady, calm, first_id, Rising, rises_from}
 use Rattle.bank.specs.Holding.{held, all_known, AllKnown, reached, Trims}
 

@@ -1,9 +1,9 @@
 -- A set with other scores answers every call but `score` as the set below it: each promise below is one above.
-use Rattle.std.proofs.Common.{◌≡◌, ℕ, zero, suc, ◌+◌, ◌<◌, ◌≤◌, Bool, true, false, cond, ◌||◌, eqb, ltb, List, [], ◌∷◌, ◌++◌, length, take, drop, sym, refl, ap, ◌∙◌, subst, inl, inr, ⊎_elim, arith}
+use Rattle.std.proofs.Common.{◌≡◌, ℕ, zero, suc, ◌+◌, ◌≤◌, Bool, true, false, cond, ◌||◌, eqb, ltb, List, [], ◌∷◌, ◌++◌, length, take, drop, sym, refl, ap, ◌∙◌, subst, inl, inr, ⊎_elim, arith}
 use lib.Ieee.{Float}
-use Rattle.docset.specs.Meaning.{Meaning, Mark, Pair, TERM, Steady, calm, ids, first_id, first_score, zero_score, rest, from, has, probed, Rising, RisingIds}
+use Rattle.docset.specs.Meaning.{Meaning, Pair, TERM, Steady, calm, ids, first_id, first_score, zero_score, rest, from, has, probed, Rising, RisingIds}
 use Rattle.docset.specs.Bits.{weighed, bit_set}
-use Rattle.docset.specs.Calls.{Told, Moved, Sought, Probed, Answered, Bounds, Filled, Counted, CountedAlive, Scored}
+use Rattle.docset.specs.Calls.{Told, Moved, Sought, Probed, Bounds, Filled, Counted, CountedAlive, Scored}
 use Rattle.docset.specs.declared.docset.SeekDangerResult.{SeekDangerResult}
 use Rattle.docset.specs.declared.docset.SeekDangerResult.TheVariants.{Found, SeekLowerBound}
 use Rattle.docset.proofs.Lists.{ended, steady_known}

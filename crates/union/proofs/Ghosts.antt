@@ -13,25 +13,23 @@ use Rattle.live.specs.Sets.{lowest_of, passed}
 -- what the struct's own fields keep, for a union that stands on doc with a window from s on
 abbrev pub Fields : ℕ → ℕ → List ℕ → Type 0
 Fields s doc ws =
-    (doc ≤ TERM) × ((s ≤ doc) × ((doc < TERM → doc < s + 4096) × (((k : ℕ) → s + k ≤ doc → slot ws k ≡ 0) × (((k : ℕ) → TERM ≤ s + k → slot ws k ≡ 0) × Unit {0}))))
+    record {
+      an_id : doc ≤ TERM;
+      begun : s ≤ doc;
+      span : doc < TERM → doc < s + 4096;
+      before : (k : ℕ) → s + k ≤ doc → slot ws k ≡ 0;
+      top : (k : ℕ) → TERM ≤ s + k → slot ws k ≡ 0
+    }
 
 pub fields_next : (s e : ℕ) (ws vs : List ℕ) (ts us : List Tally) (t : Tally) → ((k : ℕ) → TERM ≤ s + k → held ws ts k ≡ none) → Next (held ws ts) (held vs us) e t → Fields s (s + e) vs
-fields_next s e ws vs ts us t top n = (
-  let i = inside in omega arith,
-  (
-    omega arith,
-    (
-      (λ l. let i = n.inside in omega arith),
-      (
-        (λ k l. none_slot vs us k (⊎_elim (λ q. ap (held vs us) q ∙ n.here) (λ q. n.others k q ∙ n.below k (omega (arith, q))) (cases_eq k e))),
-        (
-          (λ k l. none_slot vs us k (⊎_elim (λ q. ap (held vs us) q ∙ n.here) (λ q. n.others k q ∙ top k l) (cases_eq k e))),
-          tt,
-        ),
-      ),
-    ),
-  ),
-)
+fields_next s e ws vs ts us t top n =
+    record {
+      an_id = let i = inside in omega arith;
+      begun = omega arith;
+      span = λ l. let i = n.inside in omega arith;
+      before = λ k l. none_slot vs us k (⊎_elim (λ q. ap (held vs us) q ∙ n.here) (λ q. n.others k q ∙ n.below k (omega (arith, q))) (cases_eq k e));
+      top = λ k l. none_slot vs us k (⊎_elim (λ q. ap (held vs us) q ∙ n.here) (λ q. n.others k q ∙ top k l) (cases_eq k e));
+    }
   where
     clash : held ws ts e ≡ none → ⊥
     clash q = let w = n.was in let z : ◌≡◌ {A = ℕ} 0 1 = cc in omega arith
@@ -46,12 +44,14 @@ next_inside s e ws vs ts us t top n = ⊎_elim (λ h. h) (λ h. absurd (clash (t
     clash q = let w = n.was in let z : ◌≡◌ {A = ℕ} 0 1 = cc in omega arith
 
 pub fields_none : (s doc : ℕ) (vs : List ℕ) (us : List Tally) → doc ≤ TERM → s ≤ doc → (doc < TERM → doc < s + 4096) → ((k : ℕ) → held vs us k ≡ none) → Fields s doc vs
-fields_none s doc vs us le ge span z = (le, (ge, (span, ((λ k l. none_slot vs us k (z k)), ((λ k l. none_slot vs us k (z k)), tt)))))
+fields_none s doc vs us le ge span z =
+    record { an_id = le; begun = ge; span = span; before = λ k l. none_slot vs us k (z k); top = λ k l. none_slot vs us k (z k) }
 
 -- emptied cells keep the fields
 pub fields_wiped : (s doc w : ℕ) (ws vs : List ℕ) (ts us : List Tally) → doc ≤ TERM → s ≤ doc → (doc < TERM → doc < s + 4096) → ((k : ℕ) → s + k ≤ doc → slot ws k ≡ 0) → ((k : ℕ) → TERM ≤ s + k → slot ws k ≡ 0)
     → Wiped (held ws ts) (held vs us) w → Fields s doc vs
-fields_wiped s doc w ws vs ts us le ge span before top v = (le, (ge, (span, ((λ k l. kept k (before k l)), ((λ k l. kept k (top k l)), tt)))))
+fields_wiped s doc w ws vs ts us le ge span before top v =
+    record { an_id = le; begun = ge; span = span; before = λ k l. kept k (before k l); top = λ k l. kept k (top k l) }
   where
     kept : (k : ℕ) → slot ws k ≡ 0 → slot vs k ≡ 0
     kept k z = none_slot vs us k (⊎_elim (λ l. v.below k l) (λ l. v.others k l ∙ slot_none ws ts k z) (cases_lt k w))

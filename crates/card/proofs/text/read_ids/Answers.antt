@@ -1,4 +1,4 @@
-use Rattle.std.proofs.Common.{◌≡◌, Some, vec_items, sym, ap, ◌∙◌}
+use Rattle.std.proofs.Common.{◌≡◌, Some, vec_items, ap, ◌∙◌}
 use Rattle.std.proofs.lemmas.Result.{IfOk-weaker}
 use Rattle.std.specs.Option.{option_map}
 use Rattle.card.specs.Text.{ids_of}

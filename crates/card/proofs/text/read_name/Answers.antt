@@ -1,14 +1,14 @@
-use Rattle.std.proofs.Common.{◌≡◌, [], ◌∷◌, ◌++◌, get_or, string_bytes, sym, refl, ap, ◌∙◌, arith}
+use Rattle.std.proofs.Common.{[], ◌∷◌, ◌++◌, string_bytes, sym, ap, ◌∙◌, arith}
 use Rattle.std.proofs.lemmas.List.{at_drop_all}
 use Rattle.card.proofs.Texts.{name_on, name_more_at, name_stop_at, name_ends}
 use Rattle.card.proofs.text.read_name.Goals as goal
 
-pub returns-then-not-is-name-byte : goal.returns-then-not-is-name-byte
-returns-then-not-is-name-byte c =
+pub returns-then-not-is_name_byte : goal.returns-then-not-is_name_byte
+returns-then-not-is_name_byte c =
     sym
     (c.loop-byte.invariant ∙
     name_stop_at c.args.bytes.now c.loop-byte.byte-index (string_bytes c.loop-byte.name) (omega arith)
-    c.if-not-is-name-byte.ensures.value)
+    c.if-not-is_name_byte.ensures.value)
 
 pub loop-byte-preserved : goal.loop-byte-preserved
 loop-byte-preserved c =

@@ -3,11 +3,11 @@ use Rattle.std.proofs.lemmas.List.{at_drop_all}
 use Rattle.card.proofs.Texts.{read_on, number_more_at, number_stop_at, number_ends, pushed_small}
 use Rattle.card.proofs.text.read_number.Goals as goal
 
-pub returns-in-default : goal.returns-in-default
-returns-in-default c =
+pub returns-in_default : goal.returns-in_default
+returns-in_default c =
     sym
     (c.loop-byte.invariant.0 ∙
-    number_stop_at c.args.bytes.now c.loop-byte.byte-index c.loop-byte.value (omega arith) c.in-default.ensures)
+    number_stop_at c.args.bytes.now c.loop-byte.byte-index c.loop-byte.value (omega arith) c.in_default.ensures)
 
 pub loop-byte-preserved : goal.loop-byte-preserved
 loop-byte-preserved c = (

@@ -1,4 +1,4 @@
-use Rattle.std.proofs.Common.{◌≡◌, ◌<◌, length, Some, None, sym, ap, ◌∙◌, arith}
+use Rattle.std.proofs.Common.{◌<◌, length, Some, None, sym, ap, ◌∙◌, arith}
 use Rattle.std.specs.Option.{option_map}
 use Rattle.std.proofs.lemmas.Option.{MatchOption-at_some}
 use Rattle.std.proofs.lemmas.List.{nil_from_length}
@@ -7,8 +7,8 @@ use Rattle.card.specs.Text.{lines}
 use Rattle.card.proofs.Texts.{line_parts, whole_line, closed_some}
 use Rattle.card.proofs.text.split_line.Goals as goal
 
-pub returns-then-is-empty : goal.returns-then-is-empty
-returns-then-is-empty c = ap lines (nil_from_length c.args.bytes.now (eqb-true _ 0 (sym c.if-is-empty.ensures)))
+pub returns-then-is_empty : goal.returns-then-is_empty
+returns-then-is_empty c = ap lines (nil_from_length c.args.bytes.now (eqb-true _ 0 (sym c.if-is_empty.ensures)))
 
 pub returns-in-Some : goal.returns-in-Some
 returns-in-Some c = (

@@ -3,8 +3,8 @@ use Rattle.std.proofs.lemmas.List.{nil_from_length}
 use Rattle.card.proofs.Texts.{tail, before_short, take_before, drop_before}
 use Rattle.card.proofs.text.split_once.Goals as goal
 
-pub split-at-requires : goal.split-at-requires
-split-at-requires c = omega (arith, c.count-before-at.ensures, before_short c.args.byte c.args.bytes.now)
+pub split_at-requires : goal.split_at-requires
+split_at-requires c = omega (arith, c.count_before-at.ensures, before_short c.args.byte c.args.bytes.now)
 
 pub returns-in-Some : goal.returns-in-Some
 returns-in-Some c = record {

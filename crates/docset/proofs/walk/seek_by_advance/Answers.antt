@@ -1,5 +1,5 @@
-use Rattle.std.proofs.Common.{inl, inr}
-use Rattle.docset.proofs.Walking.{seek_starts, seek_steps, seek_ends, falls}
+use Rattle.std.proofs.Common.{inr}
+use Rattle.docset.proofs.Walking.{seek_starts, seek_ends}
 use Rattle.docset.proofs.walk.seek_by_advance.Goals as goal
 
 pub loop-doc-init : goal.loop-doc-init

@@ -11,11 +11,11 @@ use Rattle.refill.proofs.refill.pour.Goals as goal
 
 pub loop-doc-init : goal.loop-doc-init
 loop-doc-init g c =
-    let t = c.doc-at-doc.ensures.told in (
+    let t = c.doc_at-doc.ensures.told in (
       record { an_id = t.an_id; still = λ s. s; list = λ s. refl; tells = λ s. t.tells s.0; due = λ s e l. refl; outside = λ e l. refl },
       set_at (kept c.args.sets.now.live (g.B.Bank.places c.args.sets.now.bank)) c.args.place,
       omega arith,
-      c.doc-at-doc.ensures.live,
+      c.doc_at-doc.ensures.live,
     )
 
 pub loop-doc-preserved : goal.loop-doc-preserved
@@ -24,27 +24,27 @@ loop-doc-preserved g c =
     let f = g.C.ScoreCombiner.taken c.args.combiner.now in
     let P = kept c.args.sets.now.live (g.B.Bank.places c.args.sets.now.bank) in
     let Q = kept c.loop-doc.sets.live (g.B.Bank.places c.loop-doc.sets.bank) in
-    let R = kept c.wanted-score-score.new.self.live (g.B.Bank.places c.wanted-score-score.new.self.bank) in
-    let S = kept c.advance-at-doc.new.self.live (g.B.Bank.places c.advance-at-doc.new.self.bank) in
+    let R = kept c.wanted_score-score.new.self.live (g.B.Bank.places c.wanted_score-score.new.self.bank) in
+    let S = kept c.advance_at-doc.new.self.live (g.B.Bank.places c.advance_at-doc.new.self.bank) in
     let v = c.loop-doc.invariant in
-    let k = c.wanted-score-score.ensures in
-    let a = c.advance-at-doc.ensures in
+    let k = c.wanted_score-score.ensures in
+    let a = c.advance_at-doc.ensures in
     let lt = c.loop-doc-test.true in
     let ht = c.requires.top in
     let F : Window → Type 0 = λ w. Turned f c.args.start c.args.end c.loop-doc.doc (at Q i) (held c.loop-doc.window.words c.loop-doc.window.tallies) (held w.words w.tallies) in
     let T : F c.if-start-doc.window =
     elim c.if-start-doc.branch [
-      | then-start-doc w ↦ subst F (sym w.window-is) (turned_put f c.args.start c.args.end c.loop-doc.doc (at Q i) c.wanted-score-score.result _ _ w.if-start-doc.true lt ht k.alike (w.insert.ensures.puts (let z = c.requires.span in let y = w.if-start-doc.true in omega arith)))
+      | then-start-doc w ↦ subst F (sym w.window-is) (turned_put f c.args.start c.args.end c.loop-doc.doc (at Q i) c.wanted_score-score.result _ _ w.if-start-doc.true lt ht k.alike (w.insert.ensures.puts (let z = c.requires.span in let y = w.if-start-doc.true in omega arith)))
       | else-start-doc w ↦ subst F (sym w.window-is) (turned_skip f c.args.start c.args.end c.loop-doc.doc (at Q i) _ (let h = w.if-start-doc.false in omega arith))
     ] in
     let b = T in
     let m = b.more in
     let l1 : live_at c.loop-doc.sets.live i = v.3 (omega arith) in
-    let l2 : live_at c.wanted-score-score.new.self.live i = ap (λ x. get_or x i false) k.live ∙ l1 in
+    let l2 : live_at c.wanted_score-score.new.self.live i = ap (λ x. get_or x i false) k.live ∙ l1 in
     let p1 = k.pays in
     let p2 = a.pays l2 in
     let p3 = v.2 in (
-      pouring_more f c.args.start c.args.end c.loop-doc.doc c.advance-at-doc.result (at P i) (at Q i) (at R i) (at S i) _ _ _ lt ht v.0 k.same a.steps b.due b.outside,
+      pouring_more f c.args.start c.args.end c.loop-doc.doc c.advance_at-doc.result (at P i) (at Q i) (at R i) (at S i) _ _ _ lt ht v.0 k.same a.steps b.due b.outside,
       set_on P R S i (at R i) (at S i) (set_on P Q R i (at Q i) (at R i) v.1 k.others) a.others,
       omega arith,
       a.live,
@@ -53,13 +53,13 @@ loop-doc-preserved g c =
 pub loop-doc-smaller : goal.loop-doc-smaller
 loop-doc-smaller g c =
     let i = c.args.place in
-    let k = c.wanted-score-score.ensures in
+    let k = c.wanted_score-score.ensures in
     let ht = c.requires.top in
     let lt = c.loop-doc-test.true in
     let l1 : live_at c.loop-doc.sets.live i = c.loop-doc.invariant.3 (omega arith) in
-    let l2 : live_at c.wanted-score-score.new.self.live i = ap (λ x. get_or x i false) k.live ∙ l1 in
+    let l2 : live_at c.wanted_score-score.new.self.live i = ap (λ x. get_or x i false) k.live ∙ l1 in
     let p1 = k.pays in
-    let p2 = c.advance-at-doc.ensures.pays l2 in
+    let p2 = c.advance_at-doc.ensures.pays l2 in
     omega arith
 
 pub returns : goal.returns

@@ -42,8 +42,8 @@ returns-then-top-lowest g c =
       gathered = gathered _ _ _ _ _ _ _ _ i.3 (other_top e.id _ _ x c.if-top-lowest.true (topped_least _ ys c.loop-top.left x _ c.in-Some.ensures i.0 t.0 t.1));
     }
 
-pub take-top-left-requires : goal.take-top-left-requires
-take-top-left-requires g c =
+pub take_top-left-requires : goal.take_top-left-requires
+take_top-left-requires g c =
     let i = c.loop-top.invariant in
     let t = top_held c.loop-top.chains c.loop-top.left c.in-Some.top c.in-Some.ensures i.0 in
     record { heaped = i.0; some = t.0; at_top = t.1 }
@@ -54,8 +54,8 @@ loop-top-preserved g c =
     let ys = c.loop-top.chains in
     let x = c.in-Some.top in
     let t = top_held ys c.loop-top.left x c.in-Some.ensures i.0 in
-    let w = c.take-top-left.ensures in
-    let q = c.saturating-add-count.ensures in
+    let w = c.take_top-left.ensures in
+    let q = c.saturating_add-count.ensures in
     let short = length-take-le c.args.len c.args.chains.now (let a = c.requires.heaped.size in let b = c.requires.heaped.few in omega arith) in (
       w.heaped,
       (let a = i.1 in let b = w.pays in omega arith),
@@ -71,7 +71,7 @@ returns g c =
     let n = c.args.len in
     let e = c.args.lowest in
     let s = top_held xs n e c.requires.topped c.requires.heaped in
-    let z : c.loop-top.left ≡ 0 = no_entry c.loop-top.chains c.loop-top.left i.0 c.in-default.ensures in
+    let z : c.loop-top.left ≡ 0 = no_entry c.loop-top.chains c.loop-top.left i.0 c.in_default.ensures in
     let some : 0 < c.loop-top.count = ⊎_elim (λ l. l) (λ l. absurd (let a = (i.2 (omega arith)).1 in let b = s.0 in omega arith)) (cases_lt 0 c.loop-top.count) in
     record {
       heaped = i.0;

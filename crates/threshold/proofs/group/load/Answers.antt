@@ -16,8 +16,8 @@ loop-place-preserved g c =
     let n = c.loop-place.len in
     let k = c.loop-place.place in
     let xs = c.loop-place.chains in
-    let d = c.doc-at-id.result in
-    let t = c.doc-at-id.ensures.told in
+    let d = c.doc_at-id.result in
+    let t = c.doc_at-id.ensures.told in
     let I : List Entry → ℕ → Type 0 = λ ys m. Heaped ys m × (m ≤ k + 1) × Loading P (take m ys) (k + 1) in
     elim c.if-id-ne-TERMINATED.branch [
       | then-id-ne-TERMINATED w ↦

@@ -35,7 +35,7 @@ loop-top-preserved g c =
 pub returns : goal.returns
 returns g c =
     let i = c.loop-top.invariant in
-    let z : c.loop-top.left ≡ 0 = no_entry c.loop-top.chains c.loop-top.left i.0 c.in-default.ensures in
+    let z : c.loop-top.left ≡ 0 = no_entry c.loop-top.chains c.loop-top.left i.0 c.in_default.ensures in
     record {
       heaped = i.0;
       an_id = omega arith;

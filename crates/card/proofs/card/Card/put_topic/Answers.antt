@@ -1,4 +1,4 @@
-use Rattle.std.proofs.Common.{vec_items, ◌∙◌, inr, arith}
+use Rattle.std.proofs.Common.{vec_items, inr, arith}
 use Rattle.card.proofs.Sketches.{topic_fits, topic_over}
 use Rattle.card.proofs.card.Card.put_topic.Goals as goal
 

@@ -3,15 +3,15 @@ use Rattle.live.specs.Kept.{live_at}
 use Rattle.live.proofs.Keeps.{advances_live, advances_ended, advances_none, live_inside}
 use Rattle.live.proofs.live.Live.advance_at.Goals as goal
 
-pub returns-then-not-is-live : goal.returns-then-not-is-live
-returns-then-not-is-live g c =
+pub returns-then-not-is_live : goal.returns-then-not-is_live
+returns-then-not-is_live g c =
     let b = c.args.self.now in
-    let l = sym c.is-live.ensures ∙ c.if-not-is-live.true in
+    let l = sym c.is_live.ensures ∙ c.if-not-is_live.true in
     advances_none b.live (g.B.Bank.places b.bank) c.args.place l
 
 pub bounds-self-place : goal.bounds-self-place
 bounds-self-place g c =
-    let l = sym c.is-live.ensures ∙ c.if-not-is-live.false in
+    let l = sym c.is_live.ensures ∙ c.if-not-is_live.false in
     let h = live_inside c.args.self.now.live c.args.place l in
     let n = c.args.self.now.count in
     omega arith
@@ -19,11 +19,11 @@ bounds-self-place g c =
 pub returns-then-doc-eq-TERMINATED : goal.returns-then-doc-eq-TERMINATED
 returns-then-doc-eq-TERMINATED g c =
     let b = c.args.self.now in
-    let l = sym c.is-live.ensures ∙ c.if-not-is-live.false in
-    advances_ended b.live (g.B.Bank.places b.bank) _ c.args.place _ l c.advance-at-doc.ensures.moves c.advance-at-doc.ensures.others.lists c.if-doc-eq-TERMINATED.true
+    let l = sym c.is_live.ensures ∙ c.if-not-is_live.false in
+    advances_ended b.live (g.B.Bank.places b.bank) _ c.args.place _ l c.advance_at-doc.ensures.moves c.advance_at-doc.ensures.others.lists c.if-doc-eq-TERMINATED.true
 
 pub returns-else-doc-eq-TERMINATED : goal.returns-else-doc-eq-TERMINATED
 returns-else-doc-eq-TERMINATED g c =
     let b = c.args.self.now in
-    let l = sym c.is-live.ensures ∙ c.if-not-is-live.false in
-    advances_live b.live (g.B.Bank.places b.bank) _ c.args.place _ l c.advance-at-doc.ensures.moves c.advance-at-doc.ensures.others.lists c.if-doc-eq-TERMINATED.false
+    let l = sym c.is_live.ensures ∙ c.if-not-is_live.false in
+    advances_live b.live (g.B.Bank.places b.bank) _ c.args.place _ l c.advance_at-doc.ensures.moves c.advance_at-doc.ensures.others.lists c.if-doc-eq-TERMINATED.false

@@ -2,14 +2,14 @@ use Rattle.std.proofs.Common.{◌≡◌, sym, refl, ◌∙◌, arith}
 use Rattle.live.proofs.Keeps.{told_live, told_none}
 use Rattle.live.proofs.live.Live.doc_at.Goals as goal
 
-pub returns-then-is-live : goal.returns-then-is-live
-returns-then-is-live g c =
+pub returns-then-is_live : goal.returns-then-is_live
+returns-then-is_live g c =
     let b = c.args.self.now in
-    let l = sym c.is-live.ensures ∙ c.if-is-live.true in
-    record { told = told_live b.live (g.B.Bank.places b.bank) c.args.place _ l c.doc-at.ensures; live = λ x. l }
+    let l = sym c.is_live.ensures ∙ c.if-is_live.true in
+    record { told = told_live b.live (g.B.Bank.places b.bank) c.args.place _ l c.doc_at.ensures; live = λ x. l }
 
-pub returns-else-is-live : goal.returns-else-is-live
-returns-else-is-live g c =
+pub returns-else-is_live : goal.returns-else-is_live
+returns-else-is_live g c =
     let b = c.args.self.now in
-    let l = sym c.is-live.ensures ∙ c.if-is-live.false in
+    let l = sym c.is_live.ensures ∙ c.if-is_live.false in
     record { told = told_none b.live (g.B.Bank.places b.bank) c.args.place l; live = λ x. absurd (omega arith) }

@@ -3,8 +3,8 @@ use Rattle.live.proofs.live.Live.greatest_hint.Goals as goal
 
 pub loop-place-preserved : goal.loop-place-preserved
 loop-place-preserved g c =
-    greatest_more (g.B.Bank.hints c.args.self.now.bank) c.loop-place.place c.loop-place.greatest-so-far _ _ _ c.loop-place-test.true
-    c.hint-at.ensures c.max-greatest-so-far.ensures c.loop-place.invariant
+    greatest_more (g.B.Bank.hints c.args.self.now.bank) c.loop-place.place c.loop-place.greatest_so_far _ _ _ c.loop-place-test.true
+    c.hint_at.ensures c.max-greatest_so_far.ensures c.loop-place.invariant
 
 pub returns : goal.returns
 returns g c =

@@ -17,7 +17,7 @@ loop-place-preserved g c =
     let P = kept c.args.self.now.live (g.B.Bank.places c.args.self.now.bank) in
     let i = c.loop-place.place in
     let e = lowest_step P i in
-    let t = c.doc-at-doc.ensures.told in
+    let t = c.doc_at-doc.ensures.told in
     elim c.if-doc-low.branch [
       | then-doc-low w ↦ (
         omega (arith, w.low-is),

@@ -1,6 +1,6 @@
 use Rattle.std.proofs.Common.{◌≡◌, ℕ, ◌+◌, Bool, List, sym, refl, ◌∙◌, subst, arith}
 use Rattle.live.proofs.Keeps.{Flags, flags_none, flags_off, flags_on, at_kept}
-use Rattle.live.proofs.live.Live.new.Goals.{then-doc-at-eq-TERMINATED, else-doc-at-eq-TERMINATED}
+use Rattle.live.proofs.live.Live.new.Goals.{then-doc_at-eq-TERMINATED, else-doc_at-eq-TERMINATED}
 use Rattle.live.proofs.live.Live.new.Goals as goal
 
 pub loop-place-init : goal.loop-place-init
@@ -10,9 +10,9 @@ pub loop-place-preserved : goal.loop-place-preserved
 loop-place-preserved g c =
     let P = g.B.Bank.places c.args.bank in
     let F : List Bool → Type 0 = λ bs. Flags (c.loop-place.place + 1) bs P in
-    elim c.if-doc-at-eq-TERMINATED.branch [
-      | then-doc-at-eq-TERMINATED w ↦ subst F (sym w.live-is) (flags_off c.loop-place.place c.doc-at.result c.loop-place.live P c.loop-place-test.true c.doc-at.ensures w.if-doc-at-eq-TERMINATED.true c.loop-place.invariant)
-      | else-doc-at-eq-TERMINATED w ↦ subst F (sym w.live-is) (flags_on c.loop-place.place c.doc-at.result c.loop-place.live P c.loop-place-test.true c.doc-at.ensures w.if-doc-at-eq-TERMINATED.false c.loop-place.invariant)
+    elim c.if-doc_at-eq-TERMINATED.branch [
+      | then-doc_at-eq-TERMINATED w ↦ subst F (sym w.live-is) (flags_off c.loop-place.place c.doc_at.result c.loop-place.live P c.loop-place-test.true c.doc_at.ensures w.if-doc_at-eq-TERMINATED.true c.loop-place.invariant)
+      | else-doc_at-eq-TERMINATED w ↦ subst F (sym w.live-is) (flags_on c.loop-place.place c.doc_at.result c.loop-place.live P c.loop-place-test.true c.doc_at.ensures w.if-doc_at-eq-TERMINATED.false c.loop-place.invariant)
     ]
 
 pub returns : goal.returns

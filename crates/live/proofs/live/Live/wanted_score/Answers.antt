@@ -3,9 +3,9 @@ use Rattle.live.specs.Kept.{kept}
 use Rattle.live.proofs.Keeps.{set_at}
 use Rattle.live.proofs.live.Live.wanted_score.Goals as goal
 
-pub returns-then-reads-scores : goal.returns-then-reads-scores
-returns-then-reads-scores g c =
-    let s = c.score-at.ensures in
+pub returns-then-reads_scores : goal.returns-then-reads_scores
+returns-then-reads_scores g c =
+    let s = c.score_at.ensures in
     record {
       same = s.tells.same;
       alike = λ z t. ap (g.C.ScoreCombiner.taken c.args.combiner.now t) (s.tells.tells z);
@@ -14,11 +14,11 @@ returns-then-reads-scores g c =
       pays = s.pays;
     }
 
-pub returns-else-reads-scores : goal.returns-else-reads-scores
-returns-else-reads-scores g c =
+pub returns-else-reads_scores : goal.returns-else-reads_scores
+returns-else-reads_scores g c =
     record {
       same = λ s. refl;
-      alike = λ z t. g.met.C.ScoreCombiner.unread c.args.combiner.now t _ _ (c.reads-scores.ensures c.if-reads-scores.false);
+      alike = λ z t. g.met.C.ScoreCombiner.unread c.args.combiner.now t _ _ (c.reads_scores.ensures c.if-reads_scores.false);
       others = set_at (kept c.args.self.now.live (g.B.Bank.places c.args.self.now.bank)) c.args.place;
       live = refl;
       pays = omega arith;

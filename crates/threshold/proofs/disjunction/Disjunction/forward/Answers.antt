@@ -23,8 +23,8 @@ returns g c =
     let u = c.args.self.now in
     let P = kept u.sets.live (g.B.Bank.places u.sets.bank) in
     let E = take u.len u.chains in
-    let w = c.next-group-stand.ensures in
-    let v = c.next-group-stand.new.sets in
+    let w = c.next_group-stand.ensures in
+    let v = c.next_group-stand.new.sets in
     let goes : (u.doc < 2147483647) ⊎ (u.unread ≡ true) = elim c.else-self-eq-TERMINATED.branch [
       | else-self-eq-TERMINATED-via-then-self-eq-TERMINATED+else-not-self x ↦ inr x.if-not-self.false
       | else-self-eq-TERMINATED-via-else-self-eq-TERMINATED x ↦ inl (let a = u.an_id in let b = x.if-self-eq-TERMINATED.false in omega (arith, b))

@@ -41,7 +41,7 @@ returns g c =
     let ok = accepted (length P) c.args.minimum size c.if-minimum-eq0.false in
     let al : AllSteady P → Alike P K = λ s. alike v.live P (g.B.Bank.places v.bank) v.count size (ap g.B.Bank.places c.new-sets.ensures.bank) s (c.new-sets.ensures.apt s) in
     let y : AllSteady P → Ready K (take n xs) = λ s. c.load-len.ensures.ready (al s).steady (alike_outside P K c.len-count.result (al s) (omega arith)) in
-    let w = c.next-group-stand.ensures.comes in
+    let w = c.next_group-stand.ensures.comes in
     record {
       refuses = sym ok;
       empty = λ ne. absurd (ne ok);

@@ -24,8 +24,8 @@ loop-filled-init g c =
       refl,
     )
 
-pub invariant-of-self : goal.invariant-of-self
-invariant-of-self g c =
+pub invariant_of-self : goal.invariant_of-self
+invariant_of-self g c =
     let l = c.loop-filled.self in
     let w = c.drain-filled.new.self in
     let id = l.an_id in

@@ -12,8 +12,8 @@ use Rattle.refill.proofs.Moves.{idle_calm}
 use Rattle.union.proofs.Ghosts.{fields_none, lowest_alike, at_passed_place}
 use Rattle.union.proofs.buffered_union.BufferedUnionScorer.build.Goals as goal
 
-pub invariant-of-refused : goal.invariant-of-refused
-invariant-of-refused g c =
+pub invariant_of-refused : goal.invariant_of-refused
+invariant_of-refused g c =
     fields_none 0 2147483647 c.new-window.result.words c.new-window.result.tallies (omega arith) (omega arith) (λ l. absurd (omega arith))
     c.new-window.ensures.empty
 
@@ -34,8 +34,8 @@ returns-then-len-gt32 g c =
       cost = λ l. ap (λ xs. min (sum_of xs) 18446744073709551615) (c.idle-sets.ensures.silent (g.B.Bank.prices v.bank));
     }
 
-pub invariant-of-scorer : goal.invariant-of-scorer
-invariant-of-scorer g c =
+pub invariant_of-scorer : goal.invariant_of-scorer
+invariant_of-scorer g c =
     fields_none 0 0 c.new-window.result.words c.new-window.result.tallies (omega arith) (omega arith) (λ l. omega arith) c.new-window.ensures.empty
 
 pub open-requires : goal.open-requires

@@ -24,15 +24,15 @@ loop-doc-init g c =
       (λ s. short _ ((told _ _ _ _ _ _ _ _ u.an_id).rises (steady_known _ s))),
     )
 
-pub overflow-add-len : goal.overflow-add-len
-overflow-add-len g c =
+pub overflow_add-len : goal.overflow_add-len
+overflow_add-len g c =
     let l = c.loop-doc.self in
     let n = count_le (held l.window.words l.window.tallies) 0 4096 in
     let e = c.len.ensures in
     omega arith
 
-pub invariant-of-self : goal.invariant-of-self
-invariant-of-self g c =
+pub invariant_of-self : goal.invariant_of-self
+invariant_of-self g c =
     let l = c.loop-doc.self in
     fields_wiped l.start l.doc _ l.window.words _ l.window.tallies _ l.an_id l.begun l.span l.before l.top c.skip.ensures.wiped
 
@@ -68,7 +68,7 @@ loop-doc-preserved g c =
           let t = v.2 s in
           let r = v.3 s in
           let k = c.len.ensures in
-          let a = c.saturating-add-count.ensures in
+          let a = c.saturating_add-count.ensures in
           omega arith),
       v.3,
     )

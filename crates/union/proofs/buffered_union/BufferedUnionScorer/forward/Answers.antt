@@ -17,13 +17,13 @@ returns-then-self-eq-TERMINATED g c =
     let q = c.if-self-eq-TERMINATED.true in
     record { moved = moved_stay _ _ _ _ _ _ _ _ q; reads = reads_same u.start u.doc (kept u.sets.live (g.B.Bank.places u.sets.bank)) u.an_id u.span; docs = refl; stands = q }
 
-pub invariant-of-self : goal.invariant-of-self
-invariant-of-self g c =
+pub invariant_of-self : goal.invariant_of-self
+invariant_of-self g c =
     let u = c.args.self.now in
     fields_next u.start c.in-Some.delta u.window.words _ u.window.tallies _ c.in-Some.tally (λ k l. slot_none u.window.words u.window.tallies k (u.top k l)) c.in-Some.ensures
 
-pub invariant-of-self-in-None : goal.invariant-of-self-in-None
-invariant-of-self-in-None g c =
+pub invariant_of-self-in-None : goal.invariant_of-self-in-None
+invariant_of-self-in-None g c =
     let u = c.args.self.now in
     let n = c.in-None.ensures in
     fields_none u.start u.doc _ _ u.an_id u.begun u.span (λ k. n.same k ∙ n.all k)

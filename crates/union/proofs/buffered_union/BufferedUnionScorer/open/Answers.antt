@@ -11,8 +11,8 @@ use Rattle.union.proofs.Ghosts.{fields_next, fields_none}
 use Rattle.refill.proofs.Reaches.{anew_end, anew_some, anew_none}
 use Rattle.union.proofs.buffered_union.BufferedUnionScorer.open.Goals as goal
 
-pub invariant-of-self : goal.invariant-of-self
-invariant-of-self g c =
+pub invariant_of-self : goal.invariant_of-self
+invariant_of-self g c =
     let u = c.args.self.now in
     fields_none u.start 2147483647 u.window.words u.window.tallies (omega arith) (let a = u.begun in let b = u.an_id in omega arith) (λ l. absurd (omega arith)) c.requires
 
@@ -28,14 +28,14 @@ returns-then-low-eq-TERMINATED g c =
           l.rises l.low c.if-low-eq-TERMINATED.true c.requires (total_kept u.sets.live (g.B.Bank.places u.sets.bank));
     }
 
-pub invariant-of-self-in-Some : goal.invariant-of-self-in-Some
-invariant-of-self-in-Some g c =
+pub invariant_of-self-in-Some : goal.invariant_of-self-in-Some
+invariant_of-self-in-Some g c =
     let n = c.in-Some.ensures in
     let w = c.refill.new.window in
     fields_next c.lowest-low.result c.in-Some.delta w.words _ w.tallies _ c.in-Some.tally (λ k l. c.refill.ensures.filled.outside k (omega arith) ∙ c.requires k) n
 
-pub invariant-of-self-in-None : goal.invariant-of-self-in-None
-invariant-of-self-in-None g c =
+pub invariant_of-self-in-None : goal.invariant_of-self-in-None
+invariant_of-self-in-None g c =
     let n = c.in-None.ensures in
     fields_none c.lowest-low.result 2147483647 _ _ (omega arith) c.lowest-low.ensures.an_id (λ l. absurd (omega arith)) (λ k. n.same k ∙ n.all k)
 

@@ -21,8 +21,8 @@ returns-then-doc-eq-TERMINATED g c =
     let u = c.args.self.now in
     record { sought = sought_stay c.args.target u.doc _ (inr c.if-doc-eq-TERMINATED.true) (told _ _ _ _ _ _ _ _ u.an_id); reads = reads_same u.start u.doc (kept u.sets.live (g.B.Bank.places u.sets.bank)) u.an_id u.span; docs = refl; stands = refl }
 
-pub invariant-of-self : goal.invariant-of-self
-invariant-of-self g c =
+pub invariant_of-self : goal.invariant_of-self
+invariant_of-self g c =
     let u = c.args.self.now in
     fields_wiped u.start u.doc _ u.window.words _ u.window.tallies _ u.an_id u.begun u.span u.before u.top c.skip.ensures.wiped
 
@@ -33,10 +33,10 @@ returns-then-target-end g c =
     let b = u.begun in
     let l : u.doc < c.args.target = let n = c.if-doc-target.false in omega arith in
     let h : c.args.target < reach u.start = let n = c.if-target-end.true in omega arith in
-    record { sought = skipped _ _ u.start u.doc c.args.target (min ((c.args.target - u.start) / 64) 64 * 64) u.score _ _ _ _ _ _ u.begun l h (omega arith) c.skip.ensures.wiped c.walk-to.ensures.sought; reads = c.walk-to.ensures.reads; docs = c.walk-to.ensures.docs; stands = c.walk-to.ensures.stands }
+    record { sought = skipped _ _ u.start u.doc c.args.target (min ((c.args.target - u.start) / 64) 64 * 64) u.score _ _ _ _ _ _ u.begun l h (omega arith) c.skip.ensures.wiped c.walk_to.ensures.sought; reads = c.walk_to.ensures.reads; docs = c.walk_to.ensures.docs; stands = c.walk_to.ensures.stands }
 
-pub invariant-of-self-2 : goal.invariant-of-self-2
-invariant-of-self-2 g c =
+pub invariant_of-self-2 : goal.invariant_of-self-2
+invariant_of-self-2 g c =
     let u = c.args.self.now in
     fields_wiped u.start u.doc _ u.window.words _ u.window.tallies _ u.an_id u.begun u.span u.before u.top c.skip-2.ensures.wiped
 
@@ -48,7 +48,7 @@ returns g c =
     let ne = c.if-doc-eq-TERMINATED.false in
     let l : u.doc < c.args.target = let n = c.if-doc-target.false in omega arith in
     let h : reach u.start ≤ c.args.target = let n = c.if-target-end.false in omega arith in
-    let v = c.seek-all.ensures in
+    let v = c.seek_all.ensures in
     record {
       sought = sought_far _ _ u.start u.doc c.args.target u.score _ _ _ _ _ _ _ (omega (arith, ne)) l h v.rises v.becomes v.pays c.open.ensures.opened;
       reads = reads_far u.start u.doc c.args.target _ c.open.result _ _ _ _ (omega (arith, ne)) h c.open.ensures.stands v.rises v.becomes c.open.ensures.anew;
@@ -59,8 +59,8 @@ returns g c =
 pub open-requires : goal.open-requires
 open-requires g c = let v = c.skip-2.ensures in λ k. ⊎_elim (v.wiped.below k) (v.past k) (cases_lt k 4096)
 
-pub walk-to-requires : goal.walk-to-requires
-walk-to-requires g c =
+pub walk_to-requires : goal.walk_to-requires
+walk_to-requires g c =
     let u = c.args.self.now in
     let e = c.horizon-end.ensures in
     let n = c.if-target-end.true in

@@ -14,19 +14,19 @@ returns-then-target-ge-TERMINATED g c =
 
 pub returns-then-doc-target : goal.returns-then-doc-target
 returns-then-doc-target g c =
-    let v = c.seek-to-doc.ensures in
+    let v = c.seek_to-doc.ensures in
     record {
-      probes = lifted_found c.args.target _ _ c.seek-to-doc.result (known_steady _ _ _ _ _ _ _ _) c.if-target-ge-TERMINATED.false v.sought c.if-doc-target.true;
-      stays = sought_stays c.args.target _ _ c.seek-to-doc.result v.sought;
+      probes = lifted_found c.args.target _ _ c.seek_to-doc.result (known_steady _ _ _ _ _ _ _ _) c.if-target-ge-TERMINATED.false v.sought c.if-doc-target.true;
+      stays = sought_stays c.args.target _ _ c.seek_to-doc.result v.sought;
       docs = v.docs;
     }
 
 pub returns : goal.returns
 returns g c =
     let u = c.args.self.now in
-    let v = c.seek-to-doc.ensures in
+    let v = c.seek_to-doc.ensures in
     record {
-      probes = lifted_missed c.args.target _ _ u.doc c.seek-to-doc.result (known_steady _ _ _ _ _ _ _ _) (told _ _ _ _ _ _ _ _ u.an_id) c.if-target-ge-TERMINATED.false v.sought c.if-doc-target.false;
-      stays = sought_stays c.args.target _ _ c.seek-to-doc.result v.sought;
+      probes = lifted_missed c.args.target _ _ u.doc c.seek_to-doc.result (known_steady _ _ _ _ _ _ _ _) (told _ _ _ _ _ _ _ _ u.an_id) c.if-target-ge-TERMINATED.false v.sought c.if-doc-target.false;
+      stays = sought_stays c.args.target _ _ c.seek_to-doc.result v.sought;
       docs = v.docs;
     }

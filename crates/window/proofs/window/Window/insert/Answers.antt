@@ -3,13 +3,15 @@ use Rattle.window.proofs.Slots.{inserted, rest_inserted}
 use Rattle.window.proofs.Held.{put_cells}
 use Rattle.window.proofs.window.Window.insert.Goals as goal
 
-pub invariant-of-self : goal.invariant-of-self
-invariant-of-self g c =
+pub invariant_of-self : goal.invariant_of-self
+invariant_of-self g c =
     let w = c.args.self.now in
-    let lt : c.args.delta / 64 < length w.words = search rules in (
-      rest_inserted w.words _ w.tallies c.args.delta _ (inserted w.words c.args.delta lt) w.rest,
-      ((λ k l. absurd (omega arith)), (omega arith, tt)),
-    )
+    let lt : c.args.delta / 64 < length w.words = search rules in
+    record {
+      rest = rest_inserted w.words _ w.tallies c.args.delta _ (inserted w.words c.args.delta lt) w.rest;
+      behind = λ k l. absurd (omega arith);
+      inside = omega arith;
+    }
 
 pub returns : goal.returns
 returns g c =

@@ -8,8 +8,8 @@ use Rattle.window.proofs.window.Window.len.Goals as goal
 pub loop-i-init : goal.loop-i-init
 loop-i-init c = let w = c.args.self.now in sym (count_behind w.words w.tallies (w.bucket * 64) w.behind)
 
-pub overflow-add-slots : goal.overflow-add-slots
-overflow-add-slots c =
+pub overflow_add-slots : goal.overflow_add-slots
+overflow_add-slots c =
     let w = c.args.self.now in
     let fits : get_or w.words c.loop-i.i 0 < 2 ^ 64 = search rules in
     omega (arith, count_le (held w.words w.tallies) 0 (c.loop-i.i * 64), ones-le 64 (get_or w.words c.loop-i.i 0) fits)

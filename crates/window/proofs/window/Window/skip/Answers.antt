@@ -9,13 +9,13 @@ loop-self-init c =
     let w = c.args.self.now in
     wiped_none w.words w.tallies (min c.min-end.result w.bucket * 64) (w.bucket * 64) (omega arith) w.behind
 
-pub invariant-of-self : goal.invariant-of-self
-invariant-of-self c =
+pub invariant_of-self : goal.invariant_of-self
+invariant_of-self c =
     let w = c.loop-self.self in
     let v = c.wipe.new.self in
     let F : List ℕ → Type 0 = λ ws. Behind ws ((w.bucket + 1) * 64) in
     let lt : w.bucket < 64 = let m = c.min-end.ensures in omega arith in
-    (v.rest, (subst F (sym c.wipe.ensures.words) (behind_more w.words w.bucket w.behind), (omega arith, tt)))
+    record { rest = v.rest; behind = subst F (sym c.wipe.ensures.words) (behind_more w.words w.bucket w.behind); inside = omega arith }
 
 pub loop-self-preserved : goal.loop-self-preserved
 loop-self-preserved c =

@@ -3,11 +3,11 @@ use Rattle.std.proofs.lemmas.List.{set-get_or}
 use Rattle.window.proofs.Slots.{rest_wiped, starts_more, outside_none, outside_more}
 use Rattle.window.proofs.window.Window.wipe.Goals as goal
 
-pub invariant-of-self : goal.invariant-of-self
-invariant-of-self c =
+pub invariant_of-self : goal.invariant_of-self
+invariant_of-self c =
     let w = c.loop-i.self in
     let lt : c.loop-i.i < length w.tallies = search rules in
-    (rest_wiped w.words w.tallies c.loop-i.i _ c.new.ensures lt w.rest, (w.behind, (w.inside, tt)))
+    record { rest = rest_wiped w.words w.tallies c.loop-i.i _ c.new.ensures lt w.rest; behind = w.behind; inside = w.inside }
 
 pub loop-i-preserved : goal.loop-i-preserved
 loop-i-preserved c =
