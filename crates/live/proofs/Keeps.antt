@@ -1,12 +1,12 @@
-use Rattle.std.proofs.Common.{◌≡◌, ℕ, zero, suc, ◌+◌, ◌<◌, ◌≤◌, min, Bool, true, false, cond, ltb, ◌≢◌, ◌⊎◌, List, [], ◌∷◌, length, get_or, drop, set, replicate, sym, refl, ap, ◌∙◌, subst, inl, inr, ⊎_elim, add-one, arith, length-set, get_or-set_other, get_or-set_same, below_more, ltb-false, ltb-true, le-ltb, lt-ltb}
+use Rattle.std.proofs.Common.{◌≡◌, ℕ, zero, suc, ◌+◌, ◌<◌, ◌≤◌, min, Bool, true, false, cond, ltb, ◌≢◌, ◌⊎◌, List, [], ◌∷◌, length, get_or, drop, set, replicate, sym, refl, ap, ◌∙◌, subst, inl, inr, ⊎_elim, add-one, arith, length-set, get_or-set_other, get_or-set_same, below_more, ltb-false, ltb-true}
 use lib.Ieee.{Float}
 use lib.ListN.{length-replicate, get_or-replicate}
 use Rattle.std.proofs.lemmas.List.{get_or_past}
-use Rattle.docset.specs.Meaning.{is_steady, Meaning, Pair, Steady, steady, lost, Known, Rising, RisingIds, ids, TERM, calm, rest, from, first_id, first_score, zero_score}
+use Rattle.docset.specs.Meaning.{is_steady, Meaning, Pair, Steady, steady, lost, Known, Rising, TERM, calm, rest, from, first_id, first_score, zero_score}
 use Rattle.docset.specs.Calls.{Told, Moved, Sought, Scored}
 use Rattle.bank.specs.Places.{at}
 use Rattle.live.specs.Sets.{empty, lowest_of, AllSteady, all_steady, AllRising, passed, part}
-use Rattle.live.specs.Kept.{kept, awake, none_left, due, due_of, live_at, Stepped, Advances, Scores, Sent, AllSent}
+use Rattle.live.specs.Kept.{kept, awake, none_left, due, due_of, live_at, Advances, Scores, Sent}
 use Rattle.docset.proofs.Lists.{ended, rising_rest, rising_from, from_all, steady_known, steady_is, is_then_steady, settled}
 use Rattle.std.proofs.lemmas.Bool.{and_parts, and_from}
 

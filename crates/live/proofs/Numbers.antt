@@ -1,5 +1,5 @@
 -- The hints and costs of several sets: those of the live ones, their sum, and the greatest of all.
-use Rattle.std.proofs.Common.{◌≡◌, ℕ, zero, suc, ◌+◌, ◌<◌, ◌≤◌, min, max, Bool, true, false, cond, List, [], ◌∷◌, ◌++◌, length, get_or, take, drop, set, replicate, sym, refl, ap, ◌∙◌, append_assoc, add-one, arith, length-take, drop-cons, take-suc-set}
+use Rattle.std.proofs.Common.{◌≡◌, ℕ, zero, suc, ◌+◌, ◌<◌, ◌≤◌, min, max, Bool, true, false, List, [], ◌∷◌, ◌++◌, length, get_or, take, drop, set, replicate, sym, refl, ap, ◌∙◌, append_assoc, add-one, arith, length-take, drop-cons, take-suc-set}
 use Rattle.std.proofs.lemmas.List.{get_or-take}
 use Rattle.live.specs.Kept.{chosen, sum_of, greatest_of}
 

@@ -1,7 +1,7 @@
 -- Several sets: the tests, one set changed, and what is left past an id.
-use Rattle.std.proofs.Common.{◌≡◌, ℕ, zero, suc, ◌+◌, ◌<◌, ◌≤◌, min, Bool, true, false, cond, ◌&&◌, ◌⊎◌, List, [], ◌∷◌, length, set, sym, refl, ap, ◌∙◌, subst, inl, inr, ⊎_elim, arith}
+use Rattle.std.proofs.Common.{◌≡◌, ℕ, zero, suc, ◌<◌, ◌≤◌, true, List, [], ◌∷◌, length, set, sym, refl, ap, ◌∙◌, ⊎_elim, arith}
 use Rattle.std.proofs.lemmas.Bool.{cases_lt, and_parts, and_from}
-use Rattle.docset.specs.Meaning.{Meaning, Pair, TERM, Steady, Rising, is_steady, rises_from, calm, ids, rest, from, first_id}
+use Rattle.docset.specs.Meaning.{Meaning, Pair, TERM, Steady, Rising, is_steady, rises_from, calm, rest, from, first_id}
 use Rattle.docset.proofs.Lists.{settled, steady_is, is_then_steady, rising_is, is_then_rising, rising_from, from_lt, from_ge, from_all, from_rest, from_least}
 use Rattle.bank.specs.Places.{at}
 use Rattle.live.specs.Sets.{empty, passed, lowest_of, AllSteady, all_steady, AllRising, all_rising}

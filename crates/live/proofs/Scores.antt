@@ -1,14 +1,14 @@
 -- The scores of an id in several sets, and the lists that come of them.
-use Rattle.std.proofs.Common.{◌≡◌, ℕ, zero, suc, ◌+◌, ◌-◌, ◌<◌, ◌≤◌, min, Bool, true, false, cond, eqb, ltb, ◌⊎◌, List, [], ◌∷◌, ◌++◌, length, sym, refl, ap, ◌∙◌, subst, inl, inr, ⊎_elim, arith, ltb-false, ltb-true, le-ltb, lt-ltb, eq-eqb, ne_eqb}
+use Rattle.std.proofs.Common.{◌≡◌, ℕ, suc, ◌+◌, ◌-◌, ◌<◌, ◌≤◌, min, Bool, true, false, cond, ltb, ◌⊎◌, List, [], ◌∷◌, ◌++◌, length, sym, refl, ap, ◌∙◌, subst, inl, inr, arith, ltb-false, ltb-true, le-ltb, eq-eqb, ne_eqb}
 use lib.Ieee.{Float}
 use Rattle.combiner.specs.declared.score_combiner.Tally.{Tally}
 use Rattle.combiner.specs.Scores.{start}
-use Rattle.docset.specs.Meaning.{Meaning, Pair, TERM, RisingIds, Rising, ids, from, first_id, first_score, rest}
-use Rattle.combiner.specs.Cells.{Cell, none, some, put, puts, entry, listed}
+use Rattle.docset.specs.Meaning.{Meaning, Pair, TERM, Rising, from, first_id}
+use Rattle.combiner.specs.Cells.{Cell, none, some, put, puts, listed}
 use Rattle.bank.specs.Places.{at}
 use Rattle.live.specs.Sets.{passed, lowest_of, AllRising}
 use Rattle.live.specs.Lists.{scores_in, scores_at, united, union_list, sifted, threshold_list}
-use Rattle.combiner.proofs.Cells.{listed_same, listed_skip, listed_head, listed_none, listed_split, listed_from, listed_rises}
+use Rattle.combiner.proofs.Cells.{listed_same, listed_skip, listed_head, listed_split, listed_from, listed_rises}
 
 -- below the first id of a rising list there is no score
 pub scores_low : (d lo : ℕ) (ps : List Pair) → d < lo → Rising lo ps → scores_in d ps ≡ []

@@ -1,9 +1,9 @@
 -- The list of a threshold: its first document, its order, and how long it is at most.
-use Rattle.std.proofs.Common.{◌≡◌, ℕ, zero, suc, ◌+◌, ◌-◌, ◌<◌, ◌≤◌, min, Bool, true, false, cond, eqb, ltb, ◌⊎◌, List, [], ◌∷◌, ◌++◌, length, set, sym, refl, ap, ◌∙◌, subst, inl, inr, ⊎_elim, arith, eq-eqb, ne_eqb}
+use Rattle.std.proofs.Common.{◌≡◌, ℕ, zero, suc, ◌+◌, ◌-◌, ◌<◌, ◌≤◌, Bool, true, false, cond, ltb, ◌⊎◌, List, [], ◌∷◌, ◌++◌, length, set, sym, refl, ap, ◌∙◌, subst, inl, inr, ⊎_elim, arith, eq-eqb, ne_eqb}
 use lib.Ieee.{Float}
 use Rattle.docset.specs.Meaning.{Meaning, Pair, TERM, Rising, calm, rest, first_id, first_score}
 use Rattle.combiner.specs.declared.score_combiner.Tally.{Tally}
-use Rattle.combiner.specs.Cells.{Cell, none, some, puts, slots, count, entry, listed}
+use Rattle.combiner.specs.Cells.{Cell, none, puts, slots, count, entry, listed}
 use Rattle.combiner.proofs.Cells.{filled, count_step, count_none, count_more, listed_same, listed_skip, listed_none, listed_rises, length_listed}
 use Rattle.bank.specs.Places.{at}
 use Rattle.live.specs.Sets.{passed, lowest_of, AllRising}

@@ -1,6 +1,6 @@
 -- A bank of which the sets that have answered TERMINATED are asked no more. A flag for each place says whether its set is
 -- live, which is to say that it has not ended. bs are the flags before a call and cs after it, P and Q the sets.
-use Rattle.std.specs.Prelude.{◌≡◌, ℕ, suc, ◌+◌, ◌<◌, ◌≤◌, min, max, Bool, true, false, cond, List, [], ◌∷◌, length, take, set, slice_index, slice_index_or, slice_set, Float}
+use Rattle.std.specs.Prelude.{◌≡◌, ℕ, suc, ◌+◌, ◌<◌, ◌≤◌, min, max, Bool, true, false, cond, List, [], ◌∷◌, length, take, slice_index, slice_index_or, slice_set, Float}
 use Rattle.docset.specs.Calls.{Scored}
 use Rattle.docset.specs.Meaning.{Meaning, Pair, lost, Steady, Rising, TERM, calm, rest, from, first_id, first_score}
 use Rattle.combiner.specs.declared.score_combiner.Tally.{Tally}

@@ -1,5 +1,5 @@
 -- Ids that are taken out of a window many at a time: written to a block, or counted.
-use Rattle.std.proofs.Common.{◌≡◌, ℕ, zero, suc, ◌+◌, ◌-◌, ◌<◌, ◌≤◌, min, Bool, true, false, cond, ◌⊎◌, List, [], ◌∷◌, ◌++◌, map, length, get_or, take, drop, set, sym, refl, ap, ◌∙◌, subst, inl, inr, ⊎_elim, append_assoc, add-one, arith, length-append, length-drop, length-set, take-append-drop, length-take, length-take-le}
+use Rattle.std.proofs.Common.{◌≡◌, ℕ, zero, suc, ◌+◌, ◌-◌, ◌<◌, ◌≤◌, min, true, false, ◌⊎◌, List, [], ◌∷◌, ◌++◌, length, get_or, take, drop, set, sym, refl, ap, ◌∙◌, subst, inl, inr, ⊎_elim, append_assoc, arith, length-append, length-drop, length-set, take-append-drop, length-take, length-take-le}
 use lib.Ieee.{Float}
 use lib.Seq.{take-append_seam, take-append-add, drop-append_seam, drop-append-add}
 use Rattle.std.proofs.lemmas.Bool.{cases_lt, cases_Bool}
@@ -11,11 +11,11 @@ use Rattle.docset.proofs.Walking.{Along, Filling, along_steps, first_at, set_sea
 use Rattle.combiner.specs.declared.score_combiner.Tally.{Tally}
 use Rattle.combiner.specs.Cells.{Cell, none, some, entry, slot_of, slots, count, listed}
 use Rattle.combiner.proofs.Cells.{slots_same, slots_none, slots_split, slots_skip, listed_same, listed_none, listed_split, ids_listed, length_listed}
-use Rattle.live.specs.Sets.{lowest_of, AllSteady, AllRising, passed}
+use Rattle.live.specs.Sets.{AllSteady, AllRising, passed}
 use Rattle.live.specs.Lists.{united, union_list}
 use Rattle.window.specs.Windows.{Wiped, shifted}
 use Rattle.refill.specs.Refills.{reach}
-use Rattle.refill.specs.State.{bound, settled, ahead, standing, on, union_meaning, Opened, next_reach, Reads, ReadsThrough, trail, reach_after}
+use Rattle.refill.specs.State.{bound, settled, ahead, union_meaning, Opened, ReadsThrough, trail, reach_after}
 use Rattle.refill.proofs.States.{ahead_in, ahead_out, union_low, settled_is, bound_on}
 use Rattle.refill.proofs.Moves.{is_calm, is_settled, lost_length, stands, on_one}
 use Rattle.refill.proofs.Seeks.{count_fewer}

@@ -1,13 +1,13 @@
 -- How long the list of a union can be.
-use Rattle.std.proofs.Common.{◌≡◌, ℕ, zero, suc, ◌+◌, ◌-◌, ◌<◌, ◌≤◌, min, Bool, true, false, cond, eqb, ltb, leb, ◌⊎◌, List, [], ◌∷◌, ◌++◌, length, sym, refl, ap, ◌∙◌, subst, inl, inr, ⊎_elim, arith, length-append, ltb-false, ltb-true, le-ltb, lt-ltb, ne_eqb}
+use Rattle.std.proofs.Common.{◌≡◌, ℕ, zero, suc, ◌+◌, ◌-◌, ◌<◌, ◌≤◌, Bool, true, false, List, [], ◌∷◌, ◌++◌, length, sym, refl, ap, ◌∙◌, ⊎_elim, arith, ne_eqb}
 use lib.Ieee.{Float}
 use Rattle.combiner.specs.declared.score_combiner.Tally.{Tally}
-use Rattle.combiner.specs.Cells.{Cell, none, some, puts, slots, count}
+use Rattle.combiner.specs.Cells.{Cell, none, puts, slots, count}
 use Rattle.std.proofs.lemmas.Bool.{cases_lt}
-use Rattle.docset.specs.Meaning.{Meaning, Pair, TERM}
-use Rattle.live.specs.Kept.{kept, due, due_of}
+use Rattle.docset.specs.Meaning.{Meaning, Pair}
+use Rattle.live.specs.Kept.{kept, due}
 use Rattle.live.specs.Lists.{scores_in, scores_at, united}
-use Rattle.combiner.proofs.Cells.{count_none, count_step, filled, count_same, count_more}
+use Rattle.combiner.proofs.Cells.{count_none, count_step, filled, count_more}
 use Rattle.refill.specs.Refills.{reach}
 use Rattle.refill.specs.State.{ahead}
 use Rattle.refill.proofs.States.{ahead_in, ahead_out}

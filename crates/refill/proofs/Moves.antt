@@ -1,19 +1,18 @@
 -- One step of a union, and a window opened.
-use Rattle.std.proofs.Common.{◌≡◌, ℕ, zero, suc, ◌+◌, ◌-◌, ◌<◌, ◌≤◌, min, Bool, true, false, cond, ltb, leb, ◌⊎◌, List, [], ◌∷◌, ◌++◌, length, replicate, sym, refl, ap, ◌∙◌, subst, inl, inr, ⊎_elim, arith, ltb-false, ltb-true, le-ltb, lt-ltb}
+use Rattle.std.proofs.Common.{◌≡◌, ℕ, suc, ◌+◌, ◌-◌, ◌<◌, ◌≤◌, true, false, ◌⊎◌, List, [], ◌∷◌, length, replicate, sym, refl, ap, ◌∙◌, subst, inl, inr, ⊎_elim, arith, le-ltb, lt-ltb}
 use lib.Ieee.{Float}
 use lib.ListN.{length-replicate}
 use Rattle.combiner.specs.declared.score_combiner.Tally.{Tally}
-use Rattle.combiner.specs.Cells.{Cell, none, some, put, puts, listed, count}
+use Rattle.combiner.specs.Cells.{Cell, none, listed, count}
 use Rattle.window.specs.Windows.{Next, Ended}
 use Rattle.std.proofs.lemmas.Bool.{cases_lt, cases_Bool}
-use Rattle.docset.specs.Meaning.{Mark, steady, astray, lost, Meaning, Pair, TERM, Steady, Known, Rising, calm, from, first_id, first_score, zero_score, rest}
+use Rattle.docset.specs.Meaning.{lost, Meaning, Pair, TERM, Steady, Known, Rising, calm, first_id, first_score, zero_score, rest}
 use Rattle.docset.specs.Calls.{Told, Moved, Scored}
-use Rattle.bank.specs.Places.{at}
-use Rattle.live.specs.Sets.{passed, lowest_of, AllSteady, AllRising}
+use Rattle.live.specs.Sets.{lowest_of, AllSteady, AllRising}
 use Rattle.live.specs.Lists.{united, union_list}
 use Rattle.refill.specs.Refills.{AllSound, Refilled, reach}
 use Rattle.refill.specs.State.{settled, bound, ahead, standing, on, union_meaning, Opened}
-use Rattle.combiner.proofs.Cells.{count_none, listed_same, listed_skip, listed_head, listed_none, listed_rises, length_listed, count_same, count_less}
+use Rattle.combiner.proofs.Cells.{count_none, listed_none, listed_rises, length_listed, count_less}
 use Rattle.refill.proofs.States.{pop_list, union_low, spent_list, filled_list, filled_some, settled_passed, settled_is, settled_by, bound_on, bound_end}
 use Rattle.refill.proofs.Lengths.{total, ahead_small}
 

@@ -1,12 +1,12 @@
 -- Sets read into the cells of a window, one after the other.
-use Rattle.std.proofs.Common.{◌≡◌, ℕ, zero, suc, ◌+◌, ◌-◌, ◌<◌, ◌≤◌, min, Bool, true, false, cond, eqb, ltb, ◌⊎◌, List, [], ◌∷◌, ◌++◌, length, take, drop, set, sym, refl, ap, ◌∙◌, subst, inl, inr, ⊎_elim, append_assoc, append-nil, add-one, arith, ltb-false, ltb-true, le-ltb, lt-ltb, eq-eqb, ne_eqb}
+use Rattle.std.proofs.Common.{◌≡◌, ℕ, zero, suc, ◌+◌, ◌-◌, ◌<◌, ◌≤◌, List, [], ◌∷◌, ◌++◌, length, take, set, sym, refl, ap, ◌∙◌, subst, ⊎_elim, append_assoc, append-nil, add-one, arith, eq-eqb, ne_eqb}
 use Rattle.bank.specs.Places.{at}
-use Rattle.live.specs.Sets.{passed, AllSteady, AllRising, part}
+use Rattle.live.specs.Sets.{part}
 use Rattle.combiner.specs.declared.score_combiner.Tally.{Tally}
 use Rattle.combiner.specs.Cells.{Cell, none, some, put, puts, count}
 use Rattle.window.specs.Windows.{Put}
 use Rattle.std.proofs.lemmas.Bool.{cases_eq}
-use Rattle.docset.specs.Meaning.{Meaning, Pair, TERM, Steady, RisingIds, Rising, calm, ids, from, first_id, first_score, rest}
+use Rattle.docset.specs.Meaning.{Meaning, Pair, TERM, Steady, calm, from, first_id, first_score, rest}
 use Rattle.live.specs.Kept.{Stepped}
 use Rattle.live.specs.Lists.{scores_in, scores_at}
 use Rattle.combiner.proofs.Cells.{count_more}

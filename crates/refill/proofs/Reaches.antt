@@ -1,18 +1,17 @@
 -- How far a union has read.
-use Rattle.std.proofs.Common.{◌≡◌, ℕ, zero, suc, ◌+◌, ◌-◌, ◌<◌, ◌≤◌, min, Bool, true, false, cond, ltb, ◌⊎◌, List, [], ◌∷◌, ◌++◌, drop, sym, refl, ap, ◌∙◌, subst, inl, inr, ⊎_elim, arith, ltb-false, ltb-true, le-ltb, lt-ltb}
+use Rattle.std.proofs.Common.{◌≡◌, ℕ, zero, suc, ◌+◌, ◌-◌, ◌<◌, ◌≤◌, Bool, true, false, cond, ltb, ◌⊎◌, List, [], ◌∷◌, ◌++◌, drop, sym, refl, ap, ◌∙◌, subst, inl, inr, ⊎_elim, arith, ltb-true, le-ltb, lt-ltb}
 use lib.Ieee.{Float}
 use Rattle.combiner.specs.declared.score_combiner.Tally.{Tally}
-use Rattle.combiner.specs.Cells.{Cell, none, some}
+use Rattle.combiner.specs.Cells.{Cell, none}
 use Rattle.window.specs.Windows.{Next, Ended}
 use Rattle.std.proofs.lemmas.Bool.{cases_lt}
-use Rattle.docset.specs.Meaning.{Meaning, Pair, TERM, Steady, Rising, calm, from, first_id, rest}
+use Rattle.docset.specs.Meaning.{Meaning, Pair, TERM, calm, from, first_id, rest}
 use Rattle.live.specs.Sets.{passed, lowest_of, AllSteady, AllRising}
 use Rattle.docset.proofs.Lists.{from_all}
 use Rattle.live.proofs.Keeps.{lowest_le}
 use Rattle.refill.specs.Refills.{Refilled, reach}
-use Rattle.refill.specs.State.{bound, settled, next_reach, Anew, Reads, ReadsThrough, trail, reach_after, union_meaning, ahead, standing}
-use Rattle.refill.proofs.Moves.{is_calm}
-use Rattle.refill.proofs.States.{filled_some, settled_is, settled_by, settled_passed, bound_on, bound_end, lowest_passed}
+use Rattle.refill.specs.State.{bound, settled, next_reach, Anew, Reads, ReadsThrough, trail, reach_after}
+use Rattle.refill.proofs.States.{filled_some, settled_is, settled_passed, bound_on, bound_end, lowest_passed}
 use Rattle.refill.proofs.Seeks.{from_none, passed_steady}
 
 -- sets that are read to h already

@@ -1,23 +1,23 @@
 -- Seeks of a union, within its window and past it.
-use Rattle.std.proofs.Common.{◌≡◌, ℕ, zero, suc, ◌+◌, ◌-◌, ◌*◌, ◌<◌, ◌≤◌, min, Bool, true, false, cond, ltb, ◌⊎◌, List, [], ◌∷◌, ◌++◌, length, sym, refl, ap, ◌∙◌, subst, inl, inr, ⊎_elim, arith, ltb-false, ltb-true, le-ltb, lt-ltb}
+use Rattle.std.proofs.Common.{◌≡◌, ℕ, zero, suc, ◌+◌, ◌-◌, ◌<◌, ◌≤◌, true, false, ◌⊎◌, List, [], ◌∷◌, length, sym, refl, ap, ◌∙◌, subst, inl, inr, ⊎_elim, arith, lt-ltb}
 use Rattle.docset.proofs.Lists.{rising_from, from_shorter}
 use Rattle.docset.proofs.Walking.{seek_starts, seek_ends}
 use Rattle.refill.proofs.Lengths.{count_zero}
 use lib.Ieee.{Float}
 use Rattle.combiner.specs.declared.score_combiner.Tally.{Tally}
-use Rattle.combiner.specs.Cells.{Cell, none, some, puts, listed, count}
+use Rattle.combiner.specs.Cells.{Cell, none, puts, listed, count}
 use Rattle.window.specs.Windows.{Wiped}
 use Rattle.std.proofs.lemmas.Bool.{cases_lt, cases_Bool}
-use Rattle.docset.specs.Meaning.{Meaning, Pair, TERM, Steady, steady, Known, Rising, calm, from, first_id, rest}
-use Rattle.docset.specs.Calls.{Told, Moved, Sought}
-use Rattle.live.specs.Sets.{passed, lowest_of, AllSteady, AllRising}
+use Rattle.docset.specs.Meaning.{Meaning, Pair, TERM, Steady, Rising, calm, from, first_id}
+use Rattle.docset.specs.Calls.{Told, Sought}
+use Rattle.live.specs.Sets.{passed, AllSteady, AllRising}
 use Rattle.live.specs.Lists.{united, union_list}
 use Rattle.combiner.proofs.Cells.{count_step, filled, listed_same, listed_none, listed_from, length_listed}
 use Rattle.refill.specs.Refills.{reach}
-use Rattle.refill.specs.State.{settled, bound, ahead, standing, on, union_meaning, Opened}
+use Rattle.refill.specs.State.{settled, bound, ahead, standing, union_meaning, Opened}
 use Rattle.live.proofs.Scores.{at_passed, at_gone}
 use Rattle.refill.proofs.States.{ahead_in, ahead_out, union_low, settled_is, lowest_passed}
-use Rattle.refill.proofs.Moves.{is_calm, is_settled, stands, ended, told, lost_length, standing_rises, on_one}
+use Rattle.refill.proofs.Moves.{is_calm, is_settled, stands, lost_length, standing_rises}
 
 pub sought_stay : (t d : ℕ) (m : Meaning) → (t ≤ d) ⊎ (d ≡ TERM) → Told m d → Sought t m m d
 sought_stay t d m e u = seek_ends t m m d (seek_starts t m d u) e

@@ -1,24 +1,20 @@
 -- What a union lists that stands somewhere in its window.
-use Rattle.std.proofs.Common.{◌≡◌, ℕ, zero, suc, ◌+◌, ◌-◌, ◌<◌, ◌≤◌, min, Bool, true, false, cond, eqb, ltb, leb, ◌⊎◌, List, [], ◌∷◌, ◌++◌, length, replicate, sym, refl, ap, ◌∙◌, subst, inl, inr, ⊎_elim, arith, length-append, ltb-false, ltb-true, le-ltb, lt-ltb, eq-eqb, ne_eqb, le-leb, leb-true}
+use Rattle.std.proofs.Common.{◌≡◌, ℕ, suc, ◌+◌, ◌-◌, ◌<◌, ◌≤◌, true, leb, ◌⊎◌, List, [], ◌∷◌, sym, refl, ap, ◌∙◌, inl, inr, arith, le-ltb, lt-ltb, le-leb, leb-true}
 use Rattle.docset.proofs.Lists.{from_least}
 use Rattle.live.proofs.Keeps.{all_steady_is, steady_is_all}
 use lib.Ieee.{Float}
-use lib.ListN.{length-replicate}
 use Rattle.combiner.specs.declared.score_combiner.Tally.{Tally}
-use Rattle.combiner.specs.Cells.{Cell, none, some, put, puts, entry, listed, count}
-use Rattle.window.specs.Windows.{Next, Ended}
+use Rattle.combiner.specs.Cells.{Cell, none, some, puts, listed}
+use Rattle.window.specs.Windows.{Next}
 use Rattle.std.proofs.lemmas.Bool.{cases_lt, and_parts, and_from}
-use Rattle.docset.specs.Meaning.{Mark, steady, astray, lost, Meaning, Pair, TERM, Steady, Known, RisingIds, Rising, calm, ids, from, first_id, first_score, rest, is_steady}
-use Rattle.docset.specs.Calls.{Told, Moved, Scored}
-use Rattle.bank.specs.Places.{at}
+use Rattle.docset.specs.Meaning.{Meaning, TERM}
 use Rattle.live.specs.Sets.{passed, lowest_of, AllSteady, AllRising, all_steady}
-use Rattle.live.specs.Kept.{kept, due, due_of}
 use Rattle.live.proofs.Keeps.{lowest_le}
-use Rattle.live.specs.Lists.{scores_in, scores_at, united, union_list}
-use Rattle.combiner.proofs.Cells.{filled, listed_same, listed_skip, listed_head, listed_none, listed_split, listed_rises, length_listed, count_same, count_more, count_less}
+use Rattle.live.specs.Lists.{scores_at, united, union_list}
+use Rattle.combiner.proofs.Cells.{listed_same, listed_skip, listed_head}
 use Rattle.refill.specs.Refills.{AllSound, Refilled, reach}
-use Rattle.refill.specs.State.{settled, bound, ahead, standing, on, union_meaning, Opened}
-use Rattle.live.proofs.Scores.{at_low, at_passed, at_gone, low_some}
+use Rattle.refill.specs.State.{settled, bound, ahead}
+use Rattle.live.proofs.Scores.{at_low, at_passed, low_some}
 
 -- cells ahead
 pub ahead_in : (f : Tally → Float → Tally) (s : ℕ) (a : ℕ → Cell) (ms : List Meaning) (d : ℕ) → d < reach s → ahead f s a ms d ≡ a (d - s)

@@ -1,8 +1,8 @@
 -- What the fields of a union keep between calls.
-use Rattle.std.proofs.Common.{◌≡◌, ℕ, zero, suc, ◌+◌, ◌-◌, ◌<◌, ◌≤◌, min, ◌⊎◌, List, [], ◌∷◌, sym, refl, ap, ◌∙◌, subst, inl, inr, ⊎_elim, arith}
+use Rattle.std.proofs.Common.{◌≡◌, ℕ, zero, suc, ◌+◌, ◌<◌, ◌≤◌, List, [], ◌∷◌, refl, ap, ◌∙◌, ⊎_elim, arith}
 use Rattle.combiner.specs.declared.score_combiner.Tally.{Tally}
 use Rattle.window.specs.Slots.{slot}
-use Rattle.combiner.specs.Cells.{Cell, none, some}
+use Rattle.combiner.specs.Cells.{none}
 use Rattle.window.specs.Windows.{held, Next, Wiped}
 use Rattle.std.proofs.lemmas.Bool.{cases_lt, cases_eq}
 use Rattle.window.proofs.Held.{slot_none, none_slot}
@@ -18,7 +18,7 @@ Fields s doc ws =
       begun : s ≤ doc;
       span : doc < TERM → doc < s + 4096;
       before : (k : ℕ) → s + k ≤ doc → slot ws k ≡ 0;
-      top : (k : ℕ) → TERM ≤ s + k → slot ws k ≡ 0
+      top : (k : ℕ) → TERM ≤ s + k → slot ws k ≡ 0;
     }
 
 pub fields_next : (s e : ℕ) (ws vs : List ℕ) (ts us : List Tally) (t : Tally) → ((k : ℕ) → TERM ≤ s + k → held ws ts k ≡ none) → Next (held ws ts) (held vs us) e t → Fields s (s + e) vs

@@ -1,5 +1,4 @@
-use Rattle.std.proofs.Common.{◌≡◌, ℕ, ◌<◌, ◌≤◌, false, get_or, sym, refl, ap, ◌∙◌, subst, arith, rules}
-use Rattle.combiner.specs.Cells.{Cell}
+use Rattle.std.proofs.Common.{false, get_or, sym, refl, ap, ◌∙◌, subst, arith}
 use Rattle.window.specs.Windows.{held}
 use Rattle.window.specs.declared.window.Window.{Window}
 use Rattle.bank.specs.Places.{at}

@@ -1,4 +1,4 @@
-use Rattle.std.proofs.Common.{◌≡◌, ℕ, ◌+◌, ◌<◌, ◌≤◌, set}
+use Rattle.std.proofs.Common.{◌≡◌, ◌+◌, ◌<◌, ◌≤◌, set}
 use Rattle.window.specs.Windows.{held}
 use Rattle.bank.specs.Places.{at}
 use Rattle.live.specs.Kept.{kept, due, live_at}

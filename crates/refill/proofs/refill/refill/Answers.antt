@@ -1,4 +1,4 @@
-use Rattle.std.proofs.Common.{◌≡◌, ℕ, ◌<◌, ◌≤◌, sym, refl, ap, ◌∙◌, subst, arith, rules}
+use Rattle.std.proofs.Common.{ℕ, subst, arith}
 use Rattle.window.specs.Windows.{held}
 use Rattle.live.specs.Kept.{kept}
 use Rattle.live.proofs.Keeps.{length_kept}

@@ -1,4 +1,4 @@
-use Rattle.std.proofs.Common.{◌≡◌, ℕ, ◌+◌, ◌<◌, ◌≤◌}
+use Rattle.std.proofs.Common.{◌+◌, ◌≤◌}
 use Rattle.window.specs.Windows.{held}
 use Rattle.live.specs.Kept.{kept, due}
 use Rattle.combiner.specs.Cells.{count}

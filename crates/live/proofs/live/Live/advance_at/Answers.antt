@@ -1,5 +1,4 @@
-use Rattle.std.proofs.Common.{◌≡◌, ℕ, ◌<◌, length, sym, refl, ◌∙◌, arith, length-set, rules}
-use Rattle.live.specs.Kept.{live_at}
+use Rattle.std.proofs.Common.{sym, ◌∙◌, arith}
 use Rattle.live.proofs.Keeps.{advances_live, advances_ended, advances_none, live_inside}
 use Rattle.live.proofs.live.Live.advance_at.Goals as goal
 

@@ -1,4 +1,4 @@
-use Rattle.std.proofs.Common.{◌≡◌, sym, refl, ◌∙◌, arith}
+use Rattle.std.proofs.Common.{sym, ◌∙◌, arith}
 use Rattle.live.proofs.Keeps.{told_live, told_none}
 use Rattle.live.proofs.live.Live.doc_at.Goals as goal
 

@@ -1,4 +1,4 @@
-use Rattle.std.proofs.Common.{◌≡◌, ◌<◌, ◌≤◌, false, length, sym, refl, arith, rules}
+use Rattle.std.proofs.Common.{◌≤◌, false, length, sym, arith}
 use Rattle.std.proofs.lemmas.List.{get_or_past}
 use Rattle.live.proofs.live.Live.is_live.Goals as goal
 

@@ -1,6 +1,5 @@
-use Rattle.std.proofs.Common.{◌≡◌, ℕ, ◌<◌, ◌≤◌, min, List, [], length, drop, sym, refl, ap, ◌∙◌, subst, arith, below_more}
-use Rattle.docset.specs.Meaning.{first_id, steady, Known}
-use Rattle.bank.specs.Places.{at}
+use Rattle.std.proofs.Common.{◌≡◌, [], drop, sym, ap, subst, arith, below_more}
+use Rattle.docset.specs.Meaning.{Known}
 use Rattle.live.specs.Sets.{lowest_of}
 use Rattle.live.specs.Kept.{kept}
 use Rattle.live.proofs.Keeps.{lowest_le, lowest_step, steady_at, drop_all, rising_all, length_kept}

@@ -1,4 +1,4 @@
-use Rattle.std.proofs.Common.{◌≡◌, ℕ, ◌+◌, Bool, List, sym, refl, ◌∙◌, subst, arith}
+use Rattle.std.proofs.Common.{◌+◌, Bool, List, sym, refl, ◌∙◌, subst, arith}
 use Rattle.live.proofs.Keeps.{Flags, flags_none, flags_off, flags_on, at_kept}
 use Rattle.live.proofs.live.Live.new.Goals.{then-doc_at-eq-TERMINATED, else-doc_at-eq-TERMINATED}
 use Rattle.live.proofs.live.Live.new.Goals as goal

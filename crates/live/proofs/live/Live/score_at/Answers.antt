@@ -1,4 +1,4 @@
-use Rattle.std.proofs.Common.{◌≡◌, sym, refl, ◌∙◌}
+use Rattle.std.proofs.Common.{sym, ◌∙◌}
 use Rattle.live.proofs.Keeps.{scores_live, scores_none}
 use Rattle.live.proofs.live.Live.score_at.Goals as goal
 

@@ -1,4 +1,4 @@
-use Rattle.std.proofs.Common.{◌≡◌, sym, refl, ◌∙◌, arith}
+use Rattle.std.proofs.Common.{sym, ◌∙◌, arith}
 use Rattle.live.proofs.Keeps.{sent_stay, sent_none, sent_live, sent_ended, live_inside}
 use Rattle.live.proofs.live.Live.send.Goals as goal
 

@@ -1,9 +1,9 @@
-use Rattle.std.proofs.Common.{◌≡◌, ℕ, ◌+◌, ◌<◌, ◌≤◌, min, Some, None, sym, refl, ap, ◌∙◌, subst, ⊎_elim, arith}
+use Rattle.std.proofs.Common.{◌≡◌, ℕ, ◌<◌, ◌≤◌, min, Some, None, sym, refl, ap, ◌∙◌, subst, ⊎_elim, arith}
 use Rattle.std.proofs.lemmas.Bool.{cases_lt, cond-true, cond-false, lt-ltb, le-ltb}
-use Rattle.docset.specs.Meaning.{Meaning, Steady, calm, from}
+use Rattle.docset.specs.Meaning.{Steady, calm, from}
 use Rattle.docset.specs.declared.refusal.Refusal.TheVariants.{TooManySets}
 use Rattle.bank.specs.Places.{at}
-use Rattle.live.specs.Sets.{AllSteady, lowest_of, passed}
+use Rattle.live.specs.Sets.{AllSteady, lowest_of}
 use Rattle.live.specs.Kept.{kept, sum_of}
 use Rattle.live.proofs.Keeps.{at_outside, steady_all, steady_at, length_kept, idle_steady, idle_low}
 use Rattle.live.proofs.Scores.{union_alike}

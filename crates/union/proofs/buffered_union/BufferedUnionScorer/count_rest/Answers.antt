@@ -1,9 +1,8 @@
-use Rattle.std.proofs.Common.{◌≡◌, ℕ, ◌+◌, ◌<◌, ◌≤◌, true, length, sym, refl, ap, ◌∙◌, subst, ⊎_elim, arith}
+use Rattle.std.proofs.Common.{◌≡◌, ◌<◌, true, length, sym, refl, ap, ◌∙◌, ⊎_elim, arith}
 use Rattle.std.proofs.lemmas.Bool.{cases_lt}
-use Rattle.docset.specs.Meaning.{Meaning, Steady, calm, first_id}
+use Rattle.docset.specs.Meaning.{Meaning, Steady, calm}
 use Rattle.live.specs.Lists.{union_list}
 use Rattle.docset.proofs.Lists.{short, ended, steady_known}
-use Rattle.combiner.specs.Cells.{none, count}
 use Rattle.combiner.proofs.Cells.{count_le}
 use Rattle.live.specs.Kept.{kept, due}
 use Rattle.window.specs.Windows.{held}

@@ -1,11 +1,10 @@
-use Rattle.std.proofs.Common.{◌≡◌, ℕ, ◌+◌, ◌<◌, ◌≤◌, sym, refl, ap, ◌∙◌, subst, arith}
+use Rattle.std.proofs.Common.{◌+◌, sym, refl, ◌∙◌, subst, arith}
 use lib.Ieee.{Float}
-use Rattle.combiner.specs.Cells.{Cell, none}
-use Rattle.window.specs.Windows.{held, Next, Ended}
+use Rattle.window.specs.Windows.{held}
 use Rattle.window.proofs.Held.{slot_none}
 use Rattle.docset.specs.Calls.{Moved}
 use Rattle.live.specs.Kept.{kept, due}
-use Rattle.refill.specs.State.{union_meaning, Opened}
+use Rattle.refill.specs.State.{union_meaning}
 use Rattle.refill.proofs.Moves.{moved_stay, moved_next, moved_open}
 use Rattle.union.proofs.Ghosts.{fields_next, fields_none, next_inside}
 use Rattle.refill.proofs.Reaches.{reads_same, reads_next, reads_anew}

@@ -1,9 +1,7 @@
-use Rattle.std.proofs.Common.{◌≡◌, ℕ, ◌+◌, ◌<◌, ◌≤◌, sym, refl, ap, ◌∙◌, subst, arith}
+use Rattle.std.proofs.Common.{◌+◌, ◌<◌, sym, refl, ◌∙◌, subst, arith}
 use lib.Ieee.{Float}
-use Rattle.combiner.specs.Cells.{Cell, none}
-use Rattle.window.specs.Windows.{held, Next, Ended}
+use Rattle.window.specs.Windows.{held}
 use Rattle.live.specs.Kept.{kept, due}
-use Rattle.refill.specs.Refills.{Refilled, reach}
 use Rattle.refill.specs.State.{union_meaning, Opened}
 use Rattle.refill.proofs.Lengths.{total_kept}
 use Rattle.refill.proofs.Moves.{opened_some, opened_none, opened_end}

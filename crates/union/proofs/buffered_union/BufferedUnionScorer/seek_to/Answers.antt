@@ -1,12 +1,9 @@
-use Rattle.std.proofs.Common.{◌≡◌, ℕ, ◌+◌, ◌-◌, ◌*◌, ◌/◌, ◌<◌, ◌≤◌, min, sym, refl, ap, ◌∙◌, subst, inl, inr, ⊎_elim, arith}
-use Rattle.combiner.specs.Cells.{Cell, none}
-use Rattle.window.specs.Windows.{held, Wiped}
+use Rattle.std.proofs.Common.{◌-◌, ◌*◌, ◌/◌, ◌<◌, ◌≤◌, min, refl, inl, inr, ⊎_elim, arith}
 use Rattle.std.proofs.lemmas.Bool.{cases_lt}
-use Rattle.live.specs.Kept.{kept, due}
+use Rattle.live.specs.Kept.{kept}
 use Rattle.refill.specs.Refills.{reach}
-use Rattle.refill.specs.State.{union_meaning, Opened}
 use Rattle.refill.proofs.Moves.{told}
-use Rattle.union.proofs.Ghosts.{fields_wiped, fields_none}
+use Rattle.union.proofs.Ghosts.{fields_wiped}
 use Rattle.refill.proofs.Seeks.{sought_stay, skipped, sought_far}
 use Rattle.refill.proofs.Reaches.{reads_same, reads_far, bound_is}
 use Rattle.union.proofs.buffered_union.BufferedUnionScorer.seek_to.Goals as goal

@@ -1,7 +1,7 @@
-use Rattle.std.proofs.Common.{◌≡◌, ℕ, ◌<◌, ◌≤◌, sym, refl, ap, ◌∙◌, subst, inl, inr, arith}
-use Rattle.live.specs.Kept.{kept, due}
+use Rattle.std.proofs.Common.{refl, ◌∙◌, arith}
+use Rattle.live.specs.Kept.{kept}
 use Rattle.refill.proofs.Moves.{told}
-use Rattle.docset.proofs.Walking.{seek_starts, seek_steps, seek_ends, falls}
+use Rattle.docset.proofs.Walking.{seek_starts, seek_steps, falls}
 use Rattle.refill.proofs.Reaches.{reads_same, reads_more}
 use Rattle.union.proofs.buffered_union.BufferedUnionScorer.walk_to.Goals as goal
 

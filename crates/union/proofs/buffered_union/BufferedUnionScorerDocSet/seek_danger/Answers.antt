@@ -1,4 +1,4 @@
-use Rattle.std.proofs.Common.{◌<◌, refl, arith}
+use Rattle.std.proofs.Common.{refl}
 use Rattle.docset.proofs.Probes.{lifted_past, lifted_found, lifted_missed, sought_stays}
 use Rattle.refill.proofs.Moves.{told, known_steady}
 use Rattle.union.proofs.buffered_union.BufferedUnionScorerDocSet.seek_danger.Goals as goal
