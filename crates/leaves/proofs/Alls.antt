@@ -1,12 +1,12 @@
 -- All documents of a segment.
-use Rattle.std.proofs.Common.{◌≡◌, ℕ, suc, ◌+◌, ◌-◌, ◌<◌, ◌≤◌, min, true, ◌⊎◌, List, [], ◌∷◌, ◌++◌, length, get_or, take, drop, set, sym, refl, ap, ◌∙◌, subst, inl, inr, ⊎_elim, arith}
+use Rattle.std.proofs.Common.{◌≡◌, ℕ, suc, ◌+◌, ◌-◌, ◌<◌, ◌≤◌, min, true, List, [], ◌∷◌, ◌++◌, length, take, drop, set, sym, refl, ap, ◌∙◌, inl, inr, ⊎_elim, arith}
 use Rattle.std.proofs.lemmas.Bool.{cases_lt}
-use Rattle.docset.specs.Meaning.{Meaning, Pair, TERM, Steady, calm, ids, first_id, zero_score, one_score, ones, from}
+use Rattle.docset.specs.Meaning.{Meaning, Pair, TERM, calm, zero_score, one_score, ones}
 use Rattle.docset.specs.Calls.{Told, Moved, Sought, Scored, Filled, Counted}
 use Rattle.docset.proofs.Lists.{from_all}
 use Rattle.docset.proofs.Probes.{sought_told}
 use Rattle.docset.proofs.Walking.{block_of, set_seam}
-use Rattle.leaves.specs.Ranges.{those, between, run}
+use Rattle.leaves.specs.Ranges.{those, run}
 use Rattle.leaves.proofs.Leaves.{ids_ones, length_ones, drop_ones, told_cons, told_end, moved_cons, moved_end, scored_cons, scored_end}
 use Rattle.leaves.proofs.Ranges.{between_end, between_hit, between_rises, between_rises_0, first_least, from_between, run_length, run_at, run_take, run_drop}
 

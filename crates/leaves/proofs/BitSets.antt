@@ -1,16 +1,15 @@
 -- Leaves over bits: where one stands, and where it goes.
-use Rattle.std.proofs.Common.{◌≡◌, ℕ, suc, ◌+◌, ◌*◌, ◌<◌, ◌≤◌, Bool, true, false, cond, eqb, ltb, ◌⊎◌, List, [], ◌∷◌, length, Some, None, Option, unwrap_or, sym, refl, ap, ◌∙◌, subst, inl, inr, ⊎_elim, arith}
+use Rattle.std.proofs.Common.{◌≡◌, ℕ, suc, ◌*◌, ◌<◌, ◌≤◌, Bool, true, false, cond, eqb, ltb, List, [], ◌∷◌, length, Some, None, Option, unwrap_or, sym, refl, ap, ◌∙◌, subst, ⊎_elim, arith}
 use Rattle.std.proofs.lemmas.Bool.{cases_lt, cases_eq, ltb-false, eqb-true, eq-eqb, ne_eqb}
-use Rattle.docset.specs.Meaning.{TERM, calm, ones, one_score, zero_score, from, RisingIds}
+use Rattle.docset.specs.Meaning.{TERM, calm, ones, one_score, zero_score, RisingIds}
 use Rattle.docset.specs.Calls.{Told, Moved, Sought, Scored}
 use Rattle.docset.specs.Bits.{bit_set}
-use Rattle.docset.specs.declared.refusal.Refusal.{Refusal}
 use Rattle.docset.specs.declared.refusal.Refusal.TheVariants.{SegmentTooLarge, WrongWordCount, BitPastEnd}
 use Rattle.docset.proofs.Lists.{from_all}
 use Rattle.docset.proofs.Probes.{sought_told}
 use Rattle.leaves.specs.Bits.{bits_from, first_of, stands, past_end, words_for, bits_refusal}
 use Rattle.leaves.proofs.Leaves.{told_cons, told_end, moved_cons, moved_end, scored_cons, scored_end}
-use Rattle.leaves.proofs.Ranges.{between_hit, between_none, between_rises, between_rises_0, from_between, first_least, first_cut, some_between, none_between}
+use Rattle.leaves.proofs.Ranges.{between_hit, between_none, between_rises_0, from_between, first_cut, some_between, none_between}
 use Rattle.leaves.proofs.Words.{bit_past}
 
 some_none : {X : Type 0} (x : X) → ◌≡◌ {A = Option X} (Some x) None → ⊥

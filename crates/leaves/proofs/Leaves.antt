@@ -1,7 +1,6 @@
 -- Leaves as lists: what a leaf tells when it stands on, passes or has passed its last id.
-use Rattle.std.proofs.Common.{◌≡◌, ℕ, zero, suc, ◌+◌, ◌-◌, ◌<◌, ◌≤◌, ◌⊎◌, List, [], ◌∷◌, length, get_or, drop, sym, refl, ap, ◌∙◌, subst, inl, inr, le_of_suc-le-suc, not-suc-le-zero, arith, length-drop, drop_of_length-le}
-use lib.Ieee.{Float}
-use Rattle.docset.specs.Meaning.{Meaning, Pair, TERM, Steady, calm, ids, first_id, first_score, zero_score, one_score, ones, rest, Rising, RisingIds}
+use Rattle.std.proofs.Common.{◌≡◌, ℕ, zero, suc, ◌-◌, ◌<◌, ◌≤◌, List, [], ◌∷◌, length, get_or, drop, sym, refl, ap, ◌∙◌, subst, inl, inr, le_of_suc-le-suc, not-suc-le-zero, arith, length-drop, drop_of_length-le}
+use Rattle.docset.specs.Meaning.{TERM, calm, ids, first_id, zero_score, one_score, ones, Rising, RisingIds}
 use Rattle.docset.specs.Calls.{Told, Moved, Scored, Counted}
 use Rattle.docset.proofs.Lists.{short_from, lower}
 use Rattle.leaves.specs.Lists.{listed, Small, Rises}

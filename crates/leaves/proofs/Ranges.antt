@@ -1,9 +1,9 @@
 -- Ranges of numbers that pass a test: their ends, their steps, their order, and what a seek leaves of them.
-use Rattle.std.proofs.Common.{◌≡◌, ℕ, zero, suc, ◌+◌, ◌-◌, ◌<◌, ◌≤◌, Bool, true, false, cond, ◌⊎◌, List, [], ◌∷◌, ◌++◌, length, get_or, take, drop, Some, None, Option, sym, refl, ap, ◌∙◌, subst, inl, inr, ⊎_elim, add-one, arith}
-use Rattle.docset.specs.Meaning.{Pair, TERM, ids, first_id, one_score, ones, from, Rising, RisingIds}
+use Rattle.std.proofs.Common.{◌≡◌, ℕ, zero, suc, ◌+◌, ◌-◌, ◌<◌, ◌≤◌, Bool, true, false, cond, ◌⊎◌, List, [], ◌∷◌, length, get_or, take, drop, Some, None, Option, sym, refl, ap, ◌∙◌, subst, inl, inr, ⊎_elim, arith}
+use Rattle.docset.specs.Meaning.{TERM, first_id, one_score, ones, from, RisingIds}
 use Rattle.docset.proofs.Lists.{from_lt, from_all, lower}
 use Rattle.std.proofs.lemmas.Bool.{cases_lt}
-use Rattle.leaves.specs.Ranges.{those, between, run}
+use Rattle.leaves.specs.Ranges.{those, between}
 use Rattle.leaves.specs.Bits.{first_of}
 
 -- ---- one number

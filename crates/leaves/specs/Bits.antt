@@ -1,5 +1,5 @@
 -- Leaves over words of bits: what is refused, and what is listed.
-use Rattle.std.specs.Prelude.{ℕ, ◌+◌, ◌*◌, ◌/◌, ◌%◌, ◌^◌, Bool, true, false, cond, List, [], ◌∷◌, length, Some, None, Option, ◌==◌, count_ones, nat_lt}
+use Rattle.std.specs.Prelude.{ℕ, ◌+◌, ◌*◌, ◌/◌, ◌%◌, ◌^◌, Bool, true, cond, List, [], ◌∷◌, length, Some, None, Option, ◌==◌, count_ones, nat_lt}
 use Rattle.docset.specs.declared.refusal.Refusal.{Refusal}
 use Rattle.docset.specs.declared.refusal.Refusal.TheVariants.{SegmentTooLarge, WrongWordCount, BitPastEnd}
 use Rattle.docset.specs.Meaning.{TERM}

@@ -1,5 +1,5 @@
 -- Leaves over a list of ids: what is refused, and what is listed.
-use Rattle.std.specs.Prelude.{ℕ, suc, ◌<◌, cond, List, [], ◌∷◌, length, drop, Some, None, Option, nat_lt, slice_index}
+use Rattle.std.specs.Prelude.{ℕ, suc, ◌<◌, cond, List, [], ◌∷◌, drop, Some, None, Option, nat_lt, slice_index}
 use Rattle.docset.specs.declared.refusal.Refusal.{Refusal}
 use Rattle.docset.specs.declared.refusal.Refusal.TheVariants.{NotRising, TooLarge}
 use Rattle.docset.specs.Meaning.{Meaning, TERM, calm, ones}

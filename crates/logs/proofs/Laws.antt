@@ -1,18 +1,17 @@
 -- Runs of steady sets are the plain list's logs, and these tell lists apart.
 use Rattle.std.proofs.Common.{◌≡◌, ℕ, zero, suc, ◌+◌, ◌<◌, ◌≤◌, Bool, true, false, cond, ltb, ◌⊎◌, List, [], ◌∷◌, ◌++◌, length, get_or, take, drop, sym, refl, ap, ◌∙◌, subst, inl, inr, arith, length-drop, length-take}
-use lib.Ieee.{Float}
 use Rattle.std.proofs.lemmas.List.{take_more}
 use Rattle.docset.specs.declared.docset.SeekDangerResult.{SeekDangerResult}
 use Rattle.docset.specs.declared.docset.SeekDangerResult.TheVariants.{Found, SeekLowerBound}
-use Rattle.docset.specs.Meaning.{Meaning, Mark, steady, Pair, TERM, Steady, Known, calm, ids, first_id, first_score, rest, from, has, probed, Rising, RisingIds}
-use Rattle.docset.specs.Calls.{found, Marks, Told, Moved, Sought, Probed, Filled, Counted, CountedAlive, Scored}
-use Rattle.docset.proofs.Lists.{steady_known, settled, rising_rest, rising_from, lower, from_shorter}
+use Rattle.docset.specs.Meaning.{Meaning, Pair, TERM, Steady, Known, calm, ids, first_id, first_score, rest, from, has, probed, Rising}
+use Rattle.docset.specs.Calls.{found, Marks}
+use Rattle.docset.proofs.Lists.{steady_known, settled, rising_rest, rising_from, from_shorter}
 use Rattle.logs.specs.declared.call.Call.{Call}
 use Rattle.logs.specs.declared.call.Call.TheVariants.{Doc, Score, Advance, Seek, Probe, Block}
 use Rattle.logs.specs.declared.call.Answer.{Answer}
-use Rattle.logs.specs.declared.call.Answer.TheVariants.{Id, Points, Hit, Miss, Written, Number}
-use Rattle.logs.specs.Plain.{after, hit, reply, End, ongoing, counted, counted_all, close, log, left, missed, missed_last, May, MayEnd, LegalFrom, Legal, LegalOn}
-use Rattle.logs.specs.Runs.{◌⟺◌, Promise, Ended, Runs, Asked, Replayed, CanAll, SameLogs, Tells, SameTold, ToldApart, Alike}
+use Rattle.logs.specs.declared.call.Answer.TheVariants.{Id, Points, Written, Number}
+use Rattle.logs.specs.Plain.{after, hit, reply, End, ongoing, counted, counted_all, close, log, left, missed, missed_last, May, MayEnd, LegalFrom}
+use Rattle.logs.specs.Runs.{Promise, Ended, Runs, Replayed, SameLogs, Tells, SameTold, ToldApart}
 
 -- ---- one call
 

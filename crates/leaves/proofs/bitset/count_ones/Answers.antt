@@ -1,4 +1,4 @@
-use Rattle.std.proofs.Common.{◌≡◌, ◌+◌, get_or, take, sym, ap, ◌∙◌, add-one, arith}
+use Rattle.std.proofs.Common.{◌+◌, get_or, sym, ap, ◌∙◌, add-one, arith}
 use lib.Count.{ones}
 use Rattle.std.proofs.lemmas.Nat.{ones-le}
 use Rattle.std.proofs.lemmas.List.{take_all}
@@ -6,14 +6,14 @@ use Rattle.leaves.specs.Bits.{ones_in}
 use Rattle.leaves.proofs.Words.{ones_more}
 use Rattle.leaves.proofs.bitset.count_ones.Goals as goal
 
-pub overflow-add-count : goal.overflow-add-count
-overflow-add-count c =
-    let f = c.type-inv.words c.loop-place.place in
+pub overflow_add-count : goal.overflow_add-count
+overflow_add-count c =
+    let f = c.type_inv.words c.loop-place.place in
     omega (arith, ones-le 64 (get_or c.args.words.now c.loop-place.place 0) (omega (arith, f)))
 
 pub loop-place-preserved : goal.loop-place-preserved
 loop-place-preserved c =
-    let f = c.ok.words c.loop-place.place in
+    let f = c.type_inv.words c.loop-place.place in
     let l = ones-le 64 (get_or c.args.words.now c.loop-place.place 0) (omega (arith, f)) in (
       ap (λ n. n + ones (get_or c.args.words.now c.loop-place.place 0)) c.loop-place.invariant.0 ∙
           rw add-one (sym (ones_more c.args.words.now c.loop-place.place c.loop-place-test.true)),

@@ -1,11 +1,11 @@
-use Rattle.std.proofs.Common.{◌≡◌, ℕ, suc, ◌+◌, ◌*◌, get_or, sym, ap, ◌∙◌, arith}
+use Rattle.std.proofs.Common.{◌≡◌, suc, ◌+◌, ◌*◌, get_or, sym, ap, ◌∙◌, arith}
 use Rattle.leaves.specs.Bits.{bits_from, first_of, bit_of}
 use Rattle.leaves.proofs.Ranges.{some_between}
 use Rattle.leaves.proofs.Words.{word_passed, word_found, words_end}
 use Rattle.leaves.proofs.bitset.first_bit.Goals as goal
 
-pub overflow-add-result : goal.overflow-add-result
-overflow-add-result c =
+pub overflow_add-result : goal.overflow_add-result
+overflow_add-result c =
     let f = some_between (bit_of (get_or c.args.words.now c.loop-place.place 0)) c.loop-place.bit 64 c.in-Some.lowest (sym c.in-Some.ensures) in
     omega (arith, f.high)
 

@@ -12,10 +12,10 @@ loop-place-preserved c =
     rw (e, add-one)
     (c.loop-place.invariant ∙ flat_more c.args.doc_ids.now (i - 1) i c.loop-place-test.true c.if-doc_ids-place.false)
 
-pub returns-then-doc-ids-place : goal.returns-then-doc-ids-place
-returns-then-doc-ids-place c =
+pub returns-then-doc_ids-place : goal.returns-then-doc_ids-place
+returns-then-doc_ids-place c =
     let i = c.loop-place.place in
-    sym (c.loop-place.invariant ∙ flat_found c.args.doc-ids.now (i - 1) i c.loop-place-test.true c.if-doc-ids-place.true)
+    sym (c.loop-place.invariant ∙ flat_found c.args.doc_ids.now (i - 1) i c.loop-place-test.true c.if-doc_ids-place.true)
 
 pub returns : goal.returns
 returns c = sym (c.loop-place.invariant ∙ flat_none c.args.doc_ids.now _ c.loop-place.place c.loop-place-test.false)

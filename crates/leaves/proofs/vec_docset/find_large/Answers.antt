@@ -1,4 +1,4 @@
-use Rattle.std.proofs.Common.{sym, refl, ◌∙◌, add-one, arith}
+use Rattle.std.proofs.Common.{sym, ◌∙◌, add-one, arith}
 use Rattle.leaves.proofs.Checks.{large_found, large_more, large_none}
 use Rattle.leaves.proofs.vec_docset.find_large.Goals as goal
 

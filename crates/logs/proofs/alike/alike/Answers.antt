@@ -16,10 +16,10 @@ loop-doc-smaller g c =
 pub returns-then-doc-other : goal.returns-then-doc-other
 returns-then-doc-other g c = ids_differ _ _ _ _ _ _ c.loop-doc.invariant c.if-doc-other.true
 
-pub returns-then-not-same-score : goal.returns-then-not-same-score
-returns-then-not-same-score g c =
-    scores_differ _ _ _ _ _ _ c.loop-doc.invariant _ _ _ _ c.score-score.ensures c.score-other-score.ensures
-    (λ h. let f = c.if-not-same-score.ensures.1 h in let z : ◌≡◌ {A = ℕ} 0 1 = cc in omega arith)
+pub returns-then-not-same_score : goal.returns-then-not-same_score
+returns-then-not-same_score g c =
+    scores_differ _ _ _ _ _ _ c.loop-doc.invariant _ _ _ _ c.score-score.ensures c.score-other_score.ensures
+    (λ h. let f = c.if-not-same_score.ensures.1 h in let z : ◌≡◌ {A = ℕ} 0 1 = cc in omega arith)
 
 pub returns : goal.returns
 returns g c = ends _ _ _ _ _ _ c.loop-doc.invariant c.loop-doc-test.false

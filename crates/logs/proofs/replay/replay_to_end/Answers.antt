@@ -7,14 +7,14 @@ pub returns-in-Keep : goal.returns-in-Keep
 returns-in-Keep g c =
     (g.S.DocSet.meaning c.replay.new.set, simp c.in-Keep.is c.in_ok-answers.ensures)
 
-pub returns-in-ok-push : goal.returns-in-ok-push
-returns-in-ok-push g c = (
+pub returns-in_ok-push-in-Count : goal.returns-in_ok-push-in-Count
+returns-in_ok-push-in-Count g c = (
   g.S.DocSet.meaning c.replay.new.set,
-  simp c.in-Count.is (replayed_end _ _ _ (counted c.args.alive-bitset.now.words.now) (vec_items c.in-ok-answers.answers) _ c.count.result c.in-ok-answers.ensures (search rules) (c.count.result, refl, c.count.ensures)),
+  simp c.in-Count.is (replayed_end _ _ _ (counted c.args.alive_bitset.now.words.now) (vec_items c.in_ok-answers.answers) _ c.count.result c.in_ok-answers.ensures (search rules) (c.count.result, refl, c.count.ensures)),
 )
 
-pub returns-in-ok-push-2 : goal.returns-in-ok-push-2
-returns-in-ok-push-2 g c = (
+pub returns-in_ok-push-in-CountIncludingDeleted : goal.returns-in_ok-push-in-CountIncludingDeleted
+returns-in_ok-push-in-CountIncludingDeleted g c = (
   g.S.DocSet.meaning c.replay.new.set,
-  simp c.in-CountIncludingDeleted.is (replayed_end _ _ _ counted_all (vec_items c.in-ok-answers.answers) _ c.count-including-deleted.result c.in-ok-answers.ensures (search rules) (c.count-including-deleted.result, refl, c.count-including-deleted.ensures)),
+  simp c.in-CountIncludingDeleted.is (replayed_end _ _ _ counted_all (vec_items c.in_ok-answers.answers) _ c.count_including_deleted.result c.in_ok-answers.ensures (search rules) (c.count_including_deleted.result, refl, c.count_including_deleted.ensures)),
 )

@@ -1,24 +1,19 @@
-use Rattle.std.proofs.Common.{[], sym, refl, ◌∙◌, arith}
+use Rattle.std.proofs.Common.{sym, refl, ◌∙◌, arith}
 use Rattle.leaves.proofs.Ranges.{between_end}
 use Rattle.leaves.proofs.BitSets.{kept_words, kept_clear, next_stands, next_cut}
 use Rattle.leaves.proofs.bitset.BitSetDocSet.new.Goals as goal
 
-pub invariant-of-result-in-None : goal.invariant-of-result-in-None
-invariant-of-result-in-None c =
-    let k = kept_words c.args.docs.now c.args.max-value (sym c.in-None.ensures) in
-    let clear = kept_clear c.args.docs.now c.args.max-value k.past in (
-      k.small,
-      (
-        omega (arith, k.small, k.sized),
-        (
-          clear,
-          (
-            c.count-ones-len.ensures,
-            (next_stands c.args.docs.now c.args.max-value k.small clear _ _ c.doc-from-doc.ensures, tt),
-          ),
-        ),
-      ),
-    )
+pub invariant_of-result-in-None : goal.invariant_of-result-in-None
+invariant_of-result-in-None c =
+    let k = kept_words c.args.docs.now c.args.max_value (sym c.in-None.ensures) in
+    let clear = kept_clear c.args.docs.now c.args.max_value k.past in
+    record {
+      small = k.small;
+      few = omega (arith, k.small, k.sized);
+      clear = clear;
+      counted = c.count_ones-len.ensures;
+      current = next_stands c.args.docs.now c.args.max_value k.small clear _ _ c.doc_from-doc.ensures;
+    }
 
 pub returns-in-Some : goal.returns-in-Some
 returns-in-Some c =

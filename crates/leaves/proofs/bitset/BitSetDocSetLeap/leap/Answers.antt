@@ -12,12 +12,10 @@ returns-then-target-self-2 c =
     let s = c.args.self.now in
     bits-ended s.docs.now s.max_value s.small s.clear c.args.target s.doc (omega (arith, c.if-target-self.false)) c.if-target-self-2.true
 
-pub invariant-of-self-2 : goal.invariant-of-self-2
-invariant-of-self-2 c =
-    let s = c.args.self.now in (
-      s.small,
-      (s.few, (s.clear, (s.counted, (next_stands s.docs.now s.max_value s.small s.clear _ _ c.doc-from-self.ensures, tt)))),
-    )
+pub invariant_of-self-2 : goal.invariant_of-self-2
+invariant_of-self-2 c =
+    let s = c.args.self.now in
+    record { small = s.small; few = s.few; clear = s.clear; counted = s.counted; current = next_stands s.docs.now s.max_value s.small s.clear _ _ c.doc_from-self.ensures }
 
 pub returns : goal.returns
 returns c =

@@ -1,4 +1,4 @@
-use Rattle.std.proofs.Common.{◌≡◌, add-one}
+use Rattle.std.proofs.Common.{add-one}
 use Rattle.leaves.proofs.BitSets.{bits-moved, bits_stay, next_stands}
 use Rattle.leaves.proofs.bitset.BitSetDocSetWalk.step.Goals as goal
 
@@ -7,12 +7,10 @@ returns-then-self-eq-TERMINATED c =
     let s = c.args.self.now in
     bits_stay s.docs.now s.max_value s.small s.clear s.doc c.if-self-eq-TERMINATED.true
 
-pub invariant-of-self : goal.invariant-of-self
-invariant-of-self c =
-    let s = c.args.self.now in (
-      s.small,
-      (s.few, (s.clear, (s.counted, (next_stands s.docs.now s.max_value s.small s.clear _ _ c.doc-from-self.ensures, tt)))),
-    )
+pub invariant_of-self : goal.invariant_of-self
+invariant_of-self c =
+    let s = c.args.self.now in
+    record { small = s.small; few = s.few; clear = s.clear; counted = s.counted; current = next_stands s.docs.now s.max_value s.small s.clear _ _ c.doc_from-self.ensures }
 
 pub returns : goal.returns
 returns c =

@@ -5,4 +5,4 @@ use Rattle.scored.proofs.reqopt_scorer.RequiredOptionalScorerDocSet.count_includ
 pub returns : goal.returns
 returns g c =
     counted_opted (combined (g.C.ScoreCombiner.taken g.C.ScoreCombiner.plain) (g.C.ScoreCombiner.told g.C.ScoreCombiner.plain))
-    c.args.self.score_cache _ (g.O.DocSet.meaning c.args.self.optional) _ c.count-including-deleted.ensures
+    c.args.self.score_cache _ (g.O.DocSet.meaning c.args.self.optional) _ c.count_including_deleted.ensures
