@@ -123,7 +123,7 @@ mod tests {
             by_hand.at_or_before(&Hit {
                 bits: 0x7FC0_0000,
                 id: 4,
-            },)
+            })
         );
     }
 }
