@@ -18,6 +18,7 @@ pub struct VecDocSet<'a> {
 }
 
 // The place of the first id that is too large.
+#[tactic(auto, using(crate::proofs::Checks::large_found))]
 fn find_large(doc_ids: &[u32]) -> Option<usize>
     ensures { result ≡ first_large 0 doc_ids.now }
 {
