@@ -1,5 +1,5 @@
 -- The sets of a bank by their place, counted from 0.
-use Rattle.std.specs.Prelude.{◌≡◌, ℕ, ◌≤◌, List, [], length, set, slice_index, slice_index_or, slice_set}
+use Rattle.std.specs.Prelude.{◌≡◌, ℕ, ◌≤◌, List, [], length, slice_index, slice_index_or, slice_set}
 use Rattle.docset.specs.Meaning.{Meaning, calm}
 
 abbrev pub largest_usize : ℕ

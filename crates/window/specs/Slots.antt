@@ -1,5 +1,5 @@
 -- The bits of words, lowest first, and the tallies of a window beside them.
-use Rattle.std.specs.Prelude.{◌≡◌, ℕ, ◌*◌, ◌/◌, ◌%◌, ◌^◌, ◌<◌, ◌≤◌, List, set, ◌≢◌, slice_index, slice_index_or, slice_set}
+use Rattle.std.specs.Prelude.{◌≡◌, ℕ, ◌*◌, ◌/◌, ◌%◌, ◌^◌, ◌<◌, ◌≤◌, List, ◌≢◌, slice_index, slice_index_or, slice_set}
 use Rattle.std.specs.Float.{nan}
 use Rattle.combiner.specs.declared.score_combiner.Tally.{Tally}
 use Rattle.combiner.specs.Scores.{start}

@@ -1,4 +1,4 @@
-ghost use Rattle.std.specs.Prelude.{◌≡◌, ℕ, ◌+◌, ◌*◌, ◌<◌, ◌≤◌, min, set, slice_index, slice_index_or, slice_set};
+ghost use Rattle.std.specs.Prelude.{◌≡◌, ℕ, ◌+◌, ◌*◌, ◌<◌, ◌≤◌, min, slice_index, slice_index_or, slice_set};
 ghost use Rattle.combiner.specs.Cells.{none, count};
 ghost use Rattle.window.specs.Slots.{slot, blank, without, Taken, AtRest, Outside};
 ghost use Rattle.window.specs.Windows.{held, Same, Put, Pops, Wiped, Drained};

@@ -1,6 +1,5 @@
-use Rattle.std.proofs.Common.{◌∙◌}
 use Rattle.combiner.proofs.Finite.{finite_is}
 use Rattle.combiner.proofs.score_combiner.is_factor.Goals as goal
 
 pub returns : goal.returns
-returns c = c.is_finite.ensures.value ∙ finite_is c.args.value
+returns c = cc (finite_is c.args.value)

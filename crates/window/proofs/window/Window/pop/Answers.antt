@@ -9,7 +9,7 @@ invariant_of-self c =
     let d : c.args.bucket * 64 + c.pop_lowest.result < length w.tallies = search rules in
     let p = popped_slot w.words c.args.bucket _ _ lt c.pop_lowest.ensures in
     record {
-      rest = rest_taken w.words _ w.tallies c.args.bucket _ _ c.new.ensures d p w.rest;
+      rest = rest_taken w.words _ w.tallies c.args.bucket _ _ (search rules) d p w.rest;
       behind = behind_taken w.words _ c.args.bucket _ (w.bucket * 64) p w.behind;
       inside = w.inside;
     }
