@@ -1,14 +1,13 @@
 -- A threshold as it is built.
-use Rattle.std.proofs.Common.{◌≡◌, ℕ, zero, suc, ◌+◌, ◌<◌, ◌≤◌, Bool, true, false, cond, eqb, ltb, List, [], ◌∷◌, length, Some, None, Option, sym, refl, ap, ◌∙◌, subst, ⊎_elim, arith}
+use Rattle.std.proofs.Common.{◌≡◌, ℕ, suc, ◌+◌, ◌<◌, ◌≤◌, Bool, cond, eqb, ltb, List, [], length, Some, None, sym, ap, ◌∙◌, subst, ⊎_elim, arith}
 use lib.Ieee.{Float}
 use Rattle.std.proofs.lemmas.Bool.{lt-ltb, le-ltb, eq-eqb, ne_eqb, cases_lt, cond-true, cond-false}
 use Rattle.docset.specs.Meaning.{Meaning, TERM, Steady, Rising, calm, from}
-use Rattle.docset.specs.declared.refusal.Refusal.{Refusal}
 use Rattle.docset.specs.declared.refusal.Refusal.TheVariants.{TooManySets, MinimumZero}
 use Rattle.combiner.specs.declared.score_combiner.Tally.{Tally}
 use Rattle.bank.specs.Places.{at}
 use Rattle.heap.specs.declared.order.Entry.{Entry}
-use Rattle.live.specs.Sets.{empty, passed, AllSteady, AllRising}
+use Rattle.live.specs.Sets.{empty, passed, AllSteady}
 use Rattle.live.specs.Kept.{kept}
 use Rattle.live.specs.Lists.{threshold_list}
 use Rattle.live.proofs.Keeps.{steady_at, steady_all, rising_all, length_kept, at_outside, idle_steady}

@@ -1,17 +1,15 @@
 -- One entry read, one id gathered, and the next document of a threshold.
-use Rattle.std.proofs.Common.{◌≡◌, ℕ, zero, suc, ◌+◌, ◌-◌, ◌<◌, ◌≤◌, min, Bool, true, false, cond, eqb, ltb, List, [], ◌∷◌, length, get_or, take, drop, set, sum_by, sym, refl, ap, ◌∙◌, subst, ⊎_elim, add-one, arith, length-append, get_or-drop, below_more}
+use Rattle.std.proofs.Common.{◌≡◌, ℕ, suc, ◌+◌, ◌-◌, ◌<◌, ◌≤◌, min, Bool, true, false, cond, eqb, ltb, List, [], ◌∷◌, length, get_or, take, drop, set, sum_by, sym, refl, ap, ◌∙◌, subst, ⊎_elim, arith, length-append, get_or-drop, below_more}
 use lib.Ieee.{Float}
-use Rattle.std.specs.List.Sorted.{IsPermutation}
-use Rattle.std.proofs.lemmas.List.{length-take-le}
 use Rattle.std.proofs.lemmas.List.Sums.{sum_by-cons}
 use Rattle.std.proofs.lemmas.List.Sorted.{sum_by-IsPermutation}
 use Rattle.std.proofs.lemmas.Bool.{lt-ltb, le-ltb, eqb-true, cases_lt}
-use Rattle.docset.specs.Meaning.{Meaning, Pair, TERM, Steady, Rising, calm, rest, first_id, first_score, zero_score}
+use Rattle.docset.specs.Meaning.{Meaning, Pair, TERM, Steady, Rising, calm, rest, first_id, first_score}
 use Rattle.docset.specs.Calls.{Told}
 use Rattle.docset.proofs.Lists.{rising_rest, steady_known, ended}
 use Rattle.combiner.specs.declared.score_combiner.Tally.{Tally}
 use Rattle.combiner.specs.Scores.{start}
-use Rattle.combiner.specs.Cells.{Cell, none, some, puts, entry}
+use Rattle.combiner.specs.Cells.{none, some, puts, entry}
 use Rattle.bank.specs.Places.{at}
 use Rattle.heap.specs.declared.order.Entry.{Entry}
 use Rattle.heap.specs.declared.heap.Top.TheVariants.{First}
@@ -19,11 +17,11 @@ use Rattle.heap.specs.Heaps.{Held, Pushed, Popped, Replaced}
 use Rattle.live.specs.Sets.{empty, passed, lowest_of, AllSteady, AllRising}
 use Rattle.live.specs.Kept.{none_left, Stepped}
 use Rattle.live.specs.Lists.{scores_in, scores_at, united, sifted, threshold_list}
-use Rattle.live.proofs.Keeps.{set_at, steady_at, rising_all, drop_all}
+use Rattle.live.proofs.Keeps.{set_at, steady_at, rising_all}
 use Rattle.live.proofs.Scores.{scores_low, at_low}
-use Rattle.live.proofs.Passed.{rising_at, steady_set, rising_set, lowest_step_up, passed_steady, passed_rising, passed_twice, passed_high, passed_none, lowest_passed, passed_step}
+use Rattle.live.proofs.Passed.{rising_at, steady_set, rising_set, lowest_step_up, passed_twice, passed_high, passed_none, lowest_passed, passed_step}
 use Rattle.live.proofs.Thresholds.{scores_step, sifted_none, threshold_step, threshold_none}
-use Rattle.threshold.specs.Entries.{entry_of, earlier, Stacked, no_id, Heaped, weight, weights, Ready, Taken, Gathered}
+use Rattle.threshold.specs.Entries.{entry_of, earlier, no_id, Heaped, weight, weights, Ready, Taken, Gathered}
 use Rattle.threshold.specs.State.{standing, on, Comes}
 use Rattle.threshold.proofs.Sums.{weights_set, weights_drop, each_zero}
 use Rattle.threshold.proofs.Tops.{as_heap, as_stack, Least, least_before, least_lowest, none_top, none_lowest}

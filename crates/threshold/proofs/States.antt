@@ -1,17 +1,16 @@
 -- The meaning of a threshold, and what its calls make of it.
-use Rattle.std.proofs.Common.{◌≡◌, ℕ, zero, suc, ◌+◌, ◌-◌, ◌<◌, ◌≤◌, Bool, true, false, cond, ◌&&◌, ◌||◌, ltb, ◌⊎◌, List, [], ◌∷◌, length, replicate, sum_by, sym, refl, ap, ◌∙◌, subst, inl, inr, ⊎_elim, arith}
+use Rattle.std.proofs.Common.{◌≡◌, ℕ, suc, ◌+◌, ◌<◌, ◌≤◌, Bool, true, false, cond, ◌&&◌, ◌||◌, ltb, ◌⊎◌, List, [], ◌∷◌, length, replicate, sum_by, sym, refl, ap, ◌∙◌, subst, inl, inr, ⊎_elim, arith}
 use lib.Ieee.{Float}
 use lib.ListN.{length-replicate}
 use Rattle.std.proofs.lemmas.Bool.{lt-ltb, le-ltb, ltb-true, cases_lt, cases_Bool, and_parts, and_from, cond-true, cond-false, both_ways}
-use Rattle.docset.specs.Meaning.{Meaning, Mark, steady, lost, Pair, TERM, Steady, Known, Rising, calm, rest, first_id, first_score, zero_score}
+use Rattle.docset.specs.Meaning.{Meaning, lost, Pair, TERM, Steady, Known, Rising, calm, rest, first_id, first_score, zero_score}
 use Rattle.docset.specs.Calls.{Told, Moved, Probed, ProbedSteady, Scored}
 use Rattle.docset.specs.declared.docset.SeekDangerResult.{SeekDangerResult}
 use Rattle.docset.proofs.Lists.{steady_known}
 use Rattle.combiner.specs.declared.score_combiner.Tally.{Tally}
-use Rattle.bank.specs.Places.{at}
 use Rattle.heap.specs.declared.order.Entry.{Entry}
-use Rattle.live.specs.Sets.{empty, passed, lowest_of, AllSteady, all_steady, AllRising, all_rising}
-use Rattle.live.specs.Lists.{scores_at, sifted, threshold_list}
+use Rattle.live.specs.Sets.{passed, lowest_of, all_steady, AllRising, all_rising}
+use Rattle.live.specs.Lists.{threshold_list}
 use Rattle.live.proofs.Passed.{steady_test, test_steady, rising_test, test_rising, first_rest, passed_high, passed_none, passed_twice, lowest_passed}
 use Rattle.live.proofs.Thresholds.{threshold_rises, threshold_none, threshold_short, total}
 use Rattle.threshold.specs.Entries.{matches, Ready}

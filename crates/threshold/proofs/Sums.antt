@@ -1,8 +1,8 @@
 -- Sums over the entries of a heap, and over the sets that they belong to.
-use Rattle.std.proofs.Common.{◌≡◌, ℕ, zero, suc, ◌+◌, ◌<◌, ◌≤◌, Bool, true, false, cond, ◌&&◌, ◌||◌, eqb, List, [], ◌∷◌, length, take, drop, set, sum_by, sym, refl, ap, ◌∙◌, subst, ⊎_elim, arith}
+use Rattle.std.proofs.Common.{◌≡◌, ℕ, zero, suc, ◌+◌, ◌<◌, Bool, true, false, cond, ◌&&◌, ◌||◌, eqb, List, [], ◌∷◌, length, drop, set, sum_by, sym, refl, ap, ◌∙◌, subst, ⊎_elim, arith}
 use Rattle.std.proofs.lemmas.List.Sums.{sum_by-cons}
 use Rattle.std.proofs.lemmas.Bool.{eqb-true, eq-eqb, and_parts, and_from, or_parts, cases_Bool, both_ways}
-use Rattle.docset.specs.Meaning.{Meaning, first_id}
+use Rattle.docset.specs.Meaning.{Meaning}
 use Rattle.bank.specs.Places.{at}
 use Rattle.heap.specs.declared.order.Entry.{Entry}
 use Rattle.live.specs.Kept.{none_left}

@@ -1,20 +1,18 @@
 -- The top of a heap of entries: the lowest id that the sets list, and of those that list it the first.
-use Rattle.std.proofs.Common.{◌≡◌, ℕ, zero, suc, ◌+◌, ◌-◌, ◌*◌, ◌<◌, ◌≤◌, Bool, true, false, cond, not, ◌&&◌, eqb, ltb, leb, ◌⊎◌, List, [], ◌∷◌, length, get_or, take, set, Some, None, sum_by, Option, sym, refl, ap, ◌∙◌, subst, inl, inr, ⊎_elim, arith}
-use Rattle.std.specs.List.Sorted.{IsPermutation}
+use Rattle.std.proofs.Common.{◌≡◌, ℕ, ◌+◌, ◌<◌, ◌≤◌, Bool, true, false, cond, not, ◌&&◌, eqb, ltb, leb, ◌⊎◌, List, [], ◌∷◌, length, get_or, take, Some, None, sum_by, Option, sym, refl, ap, ◌∙◌, subst, inl, inr, ⊎_elim, arith}
 use Rattle.std.proofs.ByRecursion.{All-from_get_or, sum_by_le}
 use Rattle.std.proofs.lemmas.List.{get_or_default, get_or-take, length-take-le}
-use Rattle.std.proofs.lemmas.List.Sums.{sum_by-cons, get_or-le-sum_by}
-use Rattle.std.proofs.lemmas.List.Sorted.{sum_by-IsPermutation}
-use Rattle.std.proofs.lemmas.Bool.{ltb-true, ltb-false, leb-true, eqb-true, lt-ltb, le-ltb, eq-eqb, and_parts, and_from, not-true, not-false, not_from_false, not_from_true, cases_lt, cases_Bool, both_ways}
-use Rattle.docset.specs.Meaning.{Meaning, Pair, TERM, Rising, calm, rest, first_id}
+use Rattle.std.proofs.lemmas.List.Sums.{get_or-le-sum_by}
+use Rattle.std.proofs.lemmas.Bool.{ltb-true, ltb-false, leb-true, eqb-true, lt-ltb, eq-eqb, and_parts, and_from, not-true, not-false, not_from_false, not_from_true, cases_lt, cases_Bool, both_ways}
+use Rattle.docset.specs.Meaning.{Meaning, Pair, TERM, Rising, first_id}
 use Rattle.docset.proofs.Lists.{settled}
 use Rattle.bank.specs.Places.{at}
 use Rattle.heap.specs.declared.order.Entry.{Entry}
 use Rattle.heap.specs.declared.heap.Top.TheVariants.{First}
 use Rattle.heap.specs.Ranks.{lex, IsHeap}
-use Rattle.heap.specs.Heaps.{Held, Topped}
+use Rattle.heap.specs.Heaps.{Topped}
 use Rattle.heap.proofs.Shuffles.{held_some}
-use Rattle.live.specs.Sets.{empty, lowest_of, AllSteady}
+use Rattle.live.specs.Sets.{empty, lowest_of}
 use Rattle.live.specs.Kept.{none_left}
 use Rattle.live.proofs.Keeps.{steady_at, lowest_le}
 use Rattle.live.proofs.Passed.{rising_at, lowest_at, lowest_bound}

@@ -1,7 +1,7 @@
 -- The entries in a threshold's heap: for each set that has something left its first id and its place.
 -- P are the sets before a call and Q after it, E the entries before it and F after it.
-use Rattle.std.specs.Prelude.{◌≡◌, ℕ, suc, ◌+◌, ◌*◌, ◌<◌, ◌≤◌, Bool, true, false, cond, ◌&&◌, ◌||◌, List, [], ◌∷◌, length, take, set, sum_by, ◌==◌, nat_lt, slice_index_or, slice_set, Float}
-use Rattle.docset.specs.Meaning.{Meaning, Pair, TERM, calm, rest, first_id, first_score}
+use Rattle.std.specs.Prelude.{◌≡◌, ℕ, suc, ◌+◌, ◌*◌, ◌<◌, ◌≤◌, Bool, true, false, cond, ◌&&◌, ◌||◌, List, [], ◌∷◌, length, take, sum_by, ◌==◌, nat_lt, slice_index_or, slice_set, Float}
+use Rattle.docset.specs.Meaning.{Meaning, TERM, calm, rest, first_id, first_score}
 use Rattle.combiner.specs.declared.score_combiner.Tally.{Tally}
 use Rattle.combiner.specs.Cells.{some}
 use Rattle.bank.specs.Places.{at}
@@ -9,7 +9,7 @@ use Rattle.heap.specs.declared.order.Entry.{Entry}
 use Rattle.heap.specs.Ranks.{lex}
 use Rattle.live.specs.Sets.{passed, lowest_of, AllSteady, AllRising}
 use Rattle.live.specs.Kept.{none_left}
-use Rattle.live.specs.Lists.{scores_at, united, threshold_list}
+use Rattle.live.specs.Lists.{scores_at, united}
 
 -- ---- which entries belong to the sets
 

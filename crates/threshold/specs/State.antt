@@ -1,6 +1,6 @@
 -- What a threshold over several sets means: its current document, and the threshold of what its sets have left.
-use Rattle.std.specs.Prelude.{◌≡◌, ℕ, suc, ◌+◌, ◌<◌, ◌≤◌, Bool, true, false, cond, ◌&&◌, ◌||◌, List, [], ◌∷◌, length, take as first, replicate, Some, None, Option, ◌==◌, nat_lt, Float}
-use Rattle.docset.specs.Meaning.{Meaning, Pair, lost, TERM, Steady, calm}
+use Rattle.std.specs.Prelude.{◌≡◌, ℕ, suc, ◌+◌, Bool, true, cond, ◌&&◌, ◌||◌, List, [], ◌∷◌, take as first, replicate, Some, None, Option, ◌==◌, nat_lt, Float}
+use Rattle.docset.specs.Meaning.{Meaning, Pair, lost, TERM, calm}
 use Rattle.docset.specs.declared.refusal.Refusal.{Refusal}
 use Rattle.docset.specs.declared.refusal.Refusal.TheVariants.{TooManySets, MinimumZero}
 use Rattle.combiner.specs.declared.score_combiner.Tally.{Tally}

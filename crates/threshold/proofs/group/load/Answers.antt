@@ -1,4 +1,4 @@
-use Rattle.std.proofs.Common.{◌≡◌, ℕ, ◌+◌, ◌<◌, ◌≤◌, List, [], length, take, sym, refl, ap, ◌∙◌, subst, arith}
+use Rattle.std.proofs.Common.{ℕ, ◌+◌, ◌<◌, ◌≤◌, List, length, take, sym, subst, arith}
 use Rattle.heap.specs.declared.order.Entry.{Entry}
 use Rattle.live.specs.Kept.{kept}
 use Rattle.threshold.specs.Entries.{Heaped}

@@ -1,8 +1,6 @@
-use Rattle.std.proofs.Common.{◌≡◌, ℕ, ◌+◌, ◌-◌, ◌<◌, ◌≤◌, List, [], take, sym, refl, ap, ◌∙◌, subst, arith}
-use Rattle.live.specs.Kept.{kept}
-use Rattle.threshold.specs.State.{on}
+use Rattle.std.proofs.Common.{◌≡◌, ℕ, take, ap, arith}
 use Rattle.threshold.proofs.Tops.{top_held, top_id, no_entry}
-use Rattle.threshold.proofs.Groups.{searching_start, searching_more, comes_found, comes_none, on_one}
+use Rattle.threshold.proofs.Groups.{searching_more, comes_found, comes_none, on_one}
 use Rattle.threshold.proofs.group.next_group.Goals as goal
 
 pub returns-then-minimum-group : goal.returns-then-minimum-group

@@ -1,4 +1,4 @@
-use Rattle.std.proofs.Common.{ℕ, ◌+◌, ◌≤◌, take}
+use Rattle.std.proofs.Common.{◌+◌, ◌≤◌, take}
 use Rattle.live.specs.Kept.{kept, due}
 use Rattle.threshold.specs.Entries.{Heaped}
 use Rattle.threshold.proofs.Groups.{Searching}

@@ -1,4 +1,4 @@
-use Rattle.std.proofs.Common.{◌≡◌, ℕ, ◌+◌, ◌-◌, ◌<◌, ◌≤◌, take, sum_by, arith}
+use Rattle.std.proofs.Common.{◌-◌, ◌<◌, take, sum_by, arith}
 use Rattle.heap.specs.declared.order.Entry.{Entry}
 use Rattle.live.specs.Kept.{kept}
 use Rattle.threshold.proofs.Tops.{topped_least}
