@@ -1,5 +1,5 @@
 -- Lemmas on what a card says.
-use Rattle.std.proofs.Common.{◌≡◌, ℕ, suc, ◌+◌, ◌<◌, ◌≤◌, ltb, ◌⊎◌, List, [], ◌∷◌, ◌++◌, map, length, Ok, Err, vec_items, Result, sym, ap, ◌∙◌, subst, inl, inr, add-one, arith}
+use Rattle.std.proofs.Common.{◌≡◌, ℕ, suc, ◌+◌, ◌<◌, ltb, ◌⊎◌, List, [], ◌∷◌, ◌++◌, map, length, Ok, Err, vec_items, Result, sym, ap, ◌∙◌, subst, inl, inr, add-one, arith}
 use Rattle.std.proofs.lemmas.Bool.{lt-ltb, le-ltb, cond-true, cond-false}
 use Rattle.std.proofs.lemmas.List.{length-map, map_push}
 use Rattle.card.specs.declared.card.Card.{Card}
@@ -33,13 +33,6 @@ topic_fits n k t ts h e =
     (lt-ltb (length (map plain (vec_items k.topics))) 32 (omega (arith, length-map (vec_items k.topics) plain))) ∙
     ap {B = Result Sketch CardFault} (λ (ps : List Plain). Ok (retopic ps (sketch k)))
     (sym (ap (map plain) e ∙ map_push plain (vec_items k.topics) t))
-
-pub topic_over :
-    (n : ℕ) (k : Card) (t : card.Topic) → 32 ≤ length (vec_items k.topics) →
-    taken n (sketch k) (topic (plain t)) ≡ Err (TooManyTopics n)
-topic_over n k t h =
-    cond-false (ltb (length (map plain (vec_items k.topics))) 32) (Ok (with_topic (plain t) (sketch k))) (Err (TooManyTopics n))
-    (le-ltb (length (map plain (vec_items k.topics))) 32 (omega (arith, length-map (vec_items k.topics) plain)))
 
 -- ---- line by line
 

@@ -1,7 +1,7 @@
 -- Going through a set block by block.
-use Rattle.std.proofs.Common.{◌≡◌, ℕ, zero, suc, ◌+◌, ◌*◌, ◌<◌, ◌≤◌, List, [], ◌∷◌, ◌++◌, length, take, drop, None, Ok, Option, Result, sym, refl, ap, ◌∙◌, subst, append_assoc, append-nil, arith, length-drop, take-append-drop, length-take}
+use Rattle.std.proofs.Common.{◌≡◌, ℕ, zero, suc, ◌+◌, ◌*◌, ◌<◌, ◌≤◌, List, [], ◌∷◌, ◌++◌, length, take, drop, None, Ok, Option, Result, sym, refl, ap, ◌∙◌, append_assoc, append-nil, arith, length-drop, take-append-drop, length-take}
 use Rattle.std.proofs.lemmas.List.{take_at, drop_all}
-use Rattle.docset.specs.Meaning.{Meaning, Mark, steady, Pair, TERM, Steady, Known, calm, ids, Rising}
+use Rattle.docset.specs.Meaning.{Meaning, Pair, TERM, Steady, calm, ids}
 use Rattle.docset.specs.Calls.{Told, Filled}
 use Rattle.docset.specs.declared.refusal.Refusal.{Refusal}
 use Rattle.card.specs.declared.fault.CardFault.{CardFault}

@@ -1,7 +1,7 @@
 // What the box does with a card: for each topic a set over its exercises, gone through block by block.
 ghost use Rattle.std.specs.Prelude.{◌≡◌, ◌≤◌, length, IfOk, if◌then◌else◌, vec_items};
 ghost use Rattle.docset.specs.Calls.{found};
-ghost use Rattle.docset.specs.Meaning.{Steady, Known, RisingIds, ones, ids as listed-ids};
+ghost use Rattle.docset.specs.Meaning.{Steady, Known, RisingIds, ones, ids as listed_ids};
 ghost use Rattle.leaves.specs.Lists.{ids_refusal, kept_ids};
 ghost use Rattle.card.specs.Faults.{Reads};
 ghost use Rattle.placement.specs.Lessons.{listed_count, first_of, last_of, leaf_read};
@@ -17,7 +17,7 @@ use std::io;
 
 // The ids of a set, read in blocks of 64. A set that is not steady is read for as many blocks as a steady one can have.
 pub fn ids_by_blocks<S: DocSet>(heap: Global, mut set: S) -> Result<Vec<u32>, AllocError>
-    ensures { IfOk result (λ v. Steady (meaning set) → v.items ≡ listed-ids (meaning set).pairs) }
+    ensures { IfOk result (λ v. Steady (S.meaning set) → v.items ≡ listed_ids (S.meaning set).pairs) }
 {
     let mut ids = Vec::new(heap);
     let mut block = [0u32; 64];
@@ -46,7 +46,7 @@ fn found_once(answer: SeekDangerResult) -> usize
 // How many of these ids, which rise, the set has.
 pub fn count_listed<S: DocSet>(mut set: S, ids: &[u32]) -> usize
     ensures bound { result ≤ length ids.now }
-    ensures tells { Known (meaning set).mark → RisingIds 0 ids.now → result ≡ listed_count ids.now (meaning set).pairs }
+    ensures tells { Known (S.meaning set).mark → RisingIds 0 ids.now → result ≡ listed_count ids.now (S.meaning set).pairs }
 {
     let mut count = 0;
     for id in ids {

@@ -7,11 +7,11 @@ loop-id-init g c = (omega arith, λ k r. starts (g.S.DocSet.meaning c.args.set) 
 
 pub loop-id-preserved : goal.loop-id-preserved
 loop-id-preserved g c = (
-  omega (arith, c.loop-id.invariant.0, c.found-once-count.ensures.bound),
+  omega (arith, c.loop-id.invariant.0, c.found_once-count.ensures.bound),
   λ k r.
-      probe_at (g.S.DocSet.meaning c.args.set) (g.S.DocSet.meaning c.loop-id.set) (g.S.DocSet.meaning c.seek-danger.new.self)
-      c.args.ids.now c.loop-id.id-index c.loop-id.count c.found-once-count.result c.seek-danger.result (omega arith)
-      (c.loop-id.invariant.1 k r) c.seek-danger.ensures c.found-once-count.ensures.value,
+      probe_at (g.S.DocSet.meaning c.args.set) (g.S.DocSet.meaning c.loop-id.set) (g.S.DocSet.meaning c.seek_danger.new.self)
+      c.args.ids.now c.loop-id.id-index c.loop-id.count c.found_once-count.result c.seek_danger.result (omega arith)
+      (c.loop-id.invariant.1 k r) c.seek_danger.ensures c.found_once-count.ensures.value,
 )
 
 pub returns : goal.returns

@@ -1,4 +1,4 @@
-use Rattle.std.proofs.Common.{◌≡◌, ◌+◌, [], ◌++◌, length, take, vec_items, sym, refl, ap, ◌∙◌, subst, arith, rules}
+use Rattle.std.proofs.Common.{◌+◌, ◌++◌, take, vec_items, sym, refl, ap, ◌∙◌, subst, arith, rules}
 use native.Mathlib.Nat.{sub-zero}
 use Rattle.placement.proofs.Blocks.{Sofar, starts, goes_on, ends_short}
 use Rattle.placement.proofs.lesson.ids_by_blocks.Goals as goal
@@ -13,23 +13,23 @@ loop-turn-init g c = (
 
 pub returns-then-filled-lt64 : goal.returns-then-filled-lt64
 returns-then-filled-lt64 g c s =
-    c.in-ok-extend-from-slice.ensures.items ∙
-    ap (λ k. vec_items c.loop-turn.ids ++ take k c.fill-buffer-filled.new.buffer) (sub-zero c.fill-buffer-filled.result) ∙
-    ends_short (g.S.DocSet.meaning c.args.set) (g.S.DocSet.meaning c.loop-turn.set) (g.S.DocSet.meaning c.fill-buffer-filled.new.self)
-    c.loop-turn.block c.fill-buffer-filled.new.buffer (vec_items c.loop-turn.ids) c.fill-buffer-filled.result c.loop-turn.-turn
-    (c.loop-turn.invariant.1 s) c.fill-buffer-filled.ensures (omega arith)
+    c.in_ok-extend_from_slice.ensures.items ∙
+    ap (λ k. vec_items c.loop-turn.ids ++ take k c.fill_buffer-filled.new.buffer) (sub-zero c.fill_buffer-filled.result) ∙
+    ends_short (g.S.DocSet.meaning c.args.set) (g.S.DocSet.meaning c.loop-turn.set) (g.S.DocSet.meaning c.fill_buffer-filled.new.self)
+    c.loop-turn.block c.fill_buffer-filled.new.buffer (vec_items c.loop-turn.ids) c.fill_buffer-filled.result c.loop-turn._turn
+    (c.loop-turn.invariant.1 s) c.fill_buffer-filled.ensures (omega arith)
 
 pub loop-turn-preserved : goal.loop-turn-preserved
 loop-turn-preserved g c = (
   search rules,
   λ s.
       let read =
-      c.in-ok-extend-from-slice.ensures.items ∙
-      ap (λ k. vec_items c.loop-turn.ids ++ take k c.fill-buffer-filled.new.buffer) (sub-zero c.fill-buffer-filled.result) in
+      c.in_ok-extend_from_slice.ensures.items ∙
+      ap (λ k. vec_items c.loop-turn.ids ++ take k c.fill_buffer-filled.new.buffer) (sub-zero c.fill_buffer-filled.result) in
       subst
-      (λ xs. Sofar (g.S.DocSet.meaning c.args.set) (g.S.DocSet.meaning c.fill-buffer-filled.new.self) xs (c.loop-turn.-turn + 1))
-      (sym {a = vec_items c.extend-from-slice.new.self} read)
-      (goes_on (g.S.DocSet.meaning c.args.set) (g.S.DocSet.meaning c.loop-turn.set) (g.S.DocSet.meaning c.fill-buffer-filled.new.self)
-      c.loop-turn.block c.fill-buffer-filled.new.buffer (vec_items c.loop-turn.ids) c.fill-buffer-filled.result c.loop-turn.-turn
-      (c.loop-turn.invariant.1 s) c.fill-buffer-filled.ensures (omega arith)),
+      (λ xs. Sofar (g.S.DocSet.meaning c.args.set) (g.S.DocSet.meaning c.fill_buffer-filled.new.self) xs (c.loop-turn._turn + 1))
+      (sym {a = vec_items c.extend_from_slice.new.self} read)
+      (goes_on (g.S.DocSet.meaning c.args.set) (g.S.DocSet.meaning c.loop-turn.set) (g.S.DocSet.meaning c.fill_buffer-filled.new.self)
+      c.loop-turn.block c.fill_buffer-filled.new.buffer (vec_items c.loop-turn.ids) c.fill_buffer-filled.result c.loop-turn._turn
+      (c.loop-turn.invariant.1 s) c.fill_buffer-filled.ensures (omega arith)),
 )
