@@ -36,7 +36,7 @@ def declared(text):
         m = re.match(r"^(?:(?:unfoldable|abbrev|opaque)\s+)*(?:pub\s+)?(?:(?:record|data)\s+)?(" + TOKEN + r")\s*(?=[:({])", line)
         if m:
             yield m.group(1)
-        m = re.match(r"^\s+(?:pub\s+)?(" + TOKEN + r"(?:\s+" + TOKEN + r")*)\s+:\s", line)
+        m = re.match(r"^\s+(?:pub\s+)?(" + TOKEN + r"(?:\s+" + TOKEN + r")*)\s+:(?:\s|$)", line)
         if m:
             yield from m.group(1).split()
         for g in re.findall(r"[({]((?:" + TOKEN + r"\s+)*" + TOKEN + r")\s+:\s", line):

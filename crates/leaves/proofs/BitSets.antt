@@ -86,40 +86,40 @@ module _ (ws : List ℕ) (max : ℕ) (s : max ≤ TERM) (clear : (k : ℕ) → m
             first_cut (bit_set ws) t (64 * length ws) x (some_between (bit_set ws) t (64 * length ws) x z) ∙
             ap (bits_from ws) (sym y)
 
-  pub bits-moved :
+  pub bits_moved :
       (d r : ℕ) → stands ws d ≡ true → (d ≡ TERM → ⊥) → r ≡ unwrap_or (first_of (bits_from ws (suc d))) TERM →
       Moved (calm (ones (bits_from ws d))) (calm (ones (bits_from ws r))) r
-  bits-moved d r e ne n =
+  bits_moved d r e ne n =
       moved_cons (bits_from ws d) d (bits_from ws r) r
       (bits_cons d e ne ∙ ap (λ (l : List ℕ). d ∷ l) (next_cut (suc d) r n)) (bits_told r (next_stands (suc d) r n))
 
   pub bits_stay : (d : ℕ) → d ≡ TERM → Moved (calm (ones (bits_from ws d))) (calm (ones (bits_from ws d))) 2147483647
   bits_stay d e = moved_end (bits_from ws d) (bits_end d e)
 
-  pub bits-sought :
+  pub bits_sought :
       (t d r : ℕ) → d ≤ t → stands ws r ≡ true → bits_from ws t ≡ bits_from ws r →
       Sought t (calm (ones (bits_from ws d))) (calm (ones (bits_from ws r))) r
-  bits-sought t d r h e c =
+  bits_sought t d r h e c =
       sought_told t (ones (bits_from ws d)) (ones (bits_from ws r)) r
       (from_between (bit_set ws) d t (64 * length ws) h ids_small ∙ ap ones c) (bits_told r e)
 
   -- a target that was passed already
-  pub bits-kept :
+  pub bits_kept :
       (t d : ℕ) → t ≤ d → stands ws d ≡ true → Sought t (calm (ones (bits_from ws d))) (calm (ones (bits_from ws d))) d
-  bits-kept t d h e =
+  bits_kept t d h e =
       let q = bits_told d e in
       sought_told t (ones (bits_from ws d)) (ones (bits_from ws d)) d
       (from_all t (ones (bits_from ws d)) (omega (arith, q.tells refl))) q
 
   -- a target at or past max ends it
-  pub bits-ended :
+  pub bits_ended :
       (t d : ℕ) → d ≤ t → max ≤ t → Sought t (calm (ones (bits_from ws d))) (calm (ones (bits_from ws 2147483647))) 2147483647
-  bits-ended t d h l =
-      bits-sought t d TERM h (stands_end ws TERM refl) (bits_none t l ∙ sym (bits_none TERM s))
+  bits_ended t d h l =
+      bits_sought t d TERM h (stands_end ws TERM refl) (bits_none t l ∙ sym (bits_none TERM s))
 
-  pub bits-scored :
+  pub bits_scored :
       (d : ℕ) → stands ws d ≡ true → (d ≡ TERM → ⊥) → Scored (calm (ones (bits_from ws d))) (calm (ones (bits_from ws d))) one_score
-  bits-scored d e ne = scored_cons (bits_from ws d) d (bits_from ws (suc d)) (bits_cons d e ne)
+  bits_scored d e ne = scored_cons (bits_from ws d) d (bits_from ws (suc d)) (bits_cons d e ne)
 
   pub bits_scored_end : (d : ℕ) → d ≡ TERM → Scored (calm (ones (bits_from ws d))) (calm (ones (bits_from ws d))) zero_score
   bits_scored_end d e = scored_end (bits_from ws d) (bits_end d e)

@@ -194,12 +194,12 @@ later f lo hi x e h =
 some_those : (f : ℕ → Bool) (lo n x : ℕ) → first_of (those f lo n) ≡ Some x → First f lo (lo + n) x
 unfolding those
 some_those f lo zero x e = absurd (some_none x (sym e))
-some_those f lo (suc n) x e = some-step (f lo) refl (some_those f (suc lo) n x)
+some_those f lo (suc n) x e = some_step (f lo) refl (some_those f (suc lo) n x)
   where
-    some-step :
+    some_step :
         (b : Bool) → f lo ≡ b → (first_of (those f (suc lo) n) ≡ Some x → First f (suc lo) (suc lo + n) x) →
         First f lo (lo + suc n) x
-    some-step true z ih =
+    some_step true z ih =
         let y : ◌≡◌ {A = Option ℕ} (Some lo) (Some x) = sym (ap first_of (those_hit f lo n z)) ∙ e in
         let w : lo ≡ x = cc in
         record {
@@ -208,7 +208,7 @@ some_those f lo (suc n) x e = some-step (f lo) refl (some_those f (suc lo) n x)
           passes = sym (ap f w) ∙ z;
           before = λ k a b. absurd (omega arith);
         }
-    some-step false z ih =
+    some_step false z ih =
         let w : suc lo + n ≡ lo + suc n = omega arith in
         subst (λ (hi : ℕ). First f lo hi x) w (later f lo (suc lo + n) x z (ih (sym (ap first_of (those_miss f lo n z)) ∙ e)))
 

@@ -44,10 +44,10 @@ module _ (m n i j : Meaning) (cs : List Call) (z : End) where
       }
 
   -- equal logs of the lists allow no other answers
-  same-answers :
+  same_answers :
       (xs ys : List Answer) → Runs m cs z xs i → Runs n cs z ys j → Steady m → Steady n → LegalOn m.pairs cs z →
       log m.pairs cs z ≡ log n.pairs cs z → xs ≡ ys
-  same-answers xs ys r q s t h e =
+  same_answers xs ys r q s t h e =
       (plainly_on false m i cs z xs s r h).said ∙ e ∙
       sym (plainly_on false n j cs z ys t q (subst (λ (v : List Answer). Legal cs z v) e h)).said
 
@@ -55,10 +55,10 @@ begun :
     (m n i j : Meaning) (ds cs : List Call) (y z : End) → Begins ds y cs z → (xs ys : List Answer) → Runs m ds y xs i → Runs n ds y ys j →
     Steady m → Steady n → LegalOn m.pairs cs z → log m.pairs cs z ≡ log n.pairs cs z → xs ≡ ys
 begun m n i j ds cs y z (inl b) xs ys r q s t h e =
-    same-answers m n i j (take b.0 cs) ongoing xs ys (rw (b.1, b.2) at r) (rw (b.1, b.2) at q) s t
+    same_answers m n i j (take b.0 cs) ongoing xs ys (rw (b.1, b.2) at r) (rw (b.1, b.2) at q) s t
     (legal_first false m.pairs b.0 cs z h) (log_first m.pairs n.pairs b.0 cs z e)
 begun m n i j ds cs y z (inr b) xs ys r q s t h e =
-    same-answers m n i j cs z xs ys (rw (b.0, b.1) at r) (rw (b.0, b.1) at q) s t h e
+    same_answers m n i j cs z xs ys (rw (b.0, b.1) at r) (rw (b.0, b.1) at q) s t h e
 
 pub agreed_not :
     (m n i j : Meaning) (cs : List Call) (z : End) (ds : List Call) (y : End) (xs ys : List Answer) → Begins ds y cs z →

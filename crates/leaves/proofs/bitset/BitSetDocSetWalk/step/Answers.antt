@@ -1,5 +1,5 @@
 use Rattle.std.proofs.Common.{add-one}
-use Rattle.leaves.proofs.BitSets.{bits-moved, bits_stay, next_stands}
+use Rattle.leaves.proofs.BitSets.{bits_moved, bits_stay, next_stands}
 use Rattle.leaves.proofs.bitset.BitSetDocSetWalk.step.Goals as goal
 
 pub returns-then-self-eq-TERMINATED : goal.returns-then-self-eq-TERMINATED
@@ -15,5 +15,5 @@ invariant_of-self c =
 pub returns : goal.returns
 returns c =
     let s = c.args.self.now in
-    bits-moved s.docs.now s.max_value s.small s.clear s.doc _ s.current c.if-self-eq-TERMINATED.false
+    bits_moved s.docs.now s.max_value s.small s.clear s.doc _ s.current c.if-self-eq-TERMINATED.false
     (rw add-one at c.doc_from-self.ensures)
