@@ -9,7 +9,7 @@ returns-then-place-sets g c =
     let e = c.as_mut_slice-sets.ensures in
     let z = whole (set c.as_mut_slice-sets.result.now c.args.place c.advance.new.self) c.args.self.now.items c.args.self.now.len (length-set _ _ _ ∙ e.len) in
     let r =
-    called_here g.S.DocSet.meaning g.S.DocSet.hint g.S.DocSet.price (λ m n. Moved m n c.advance.result) _ _ _ c.args.place c.index-sets-place.result _ e.value z c.if-place-sets.true c.advance.ensures in
+    called_here g.S.DocSet.meaning g.S.DocSet.hint g.S.DocSet.price (λ m n. Moved m n c.advance.result) _ _ _ c.args.place _ _ e.value z c.if-place-sets.true c.advance.ensures in
     record { moves = r.moves; others = r.others }
 
 pub returns-else-place-sets : goal.returns-else-place-sets
