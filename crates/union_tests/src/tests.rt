@@ -105,7 +105,7 @@ fn the_hint_is_of_what_has_not_ended(rt: HostRuntime) {
     assert_eq!(rt; (set.size_hint(), set.cost()), (0, 0));
 }
 
-// So many sets, each with the one document 0.
+// So many sets, each with the one id 0.
 fn many(heap: Global, count: usize) -> Result<(u32, f32), AllocError> {
     let mut bank = Vec::new(heap);
     for _ in 0..count {
