@@ -243,3 +243,7 @@ pub fill_ends :
 fill_ends m n old new i d f o =
     block_of m n old new i f.at_most f.along.shrinks (fill_stop m n old new i d f o) f.reach
     (λ s. settled n (drop i m.pairs) (f.along.still s) (f.drops s)) f.writes
+
+pub fill_full :
+    (m n : Meaning) (old new : List ℕ) (i d : ℕ) → Filling m n old new i d → i ≡ 64 → Filled m n old new 64
+fill_full m n old new i d f e = subst (λ k. Filled m n old new k) e (fill_ends m n old new i d f (inl e))

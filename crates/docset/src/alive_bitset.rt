@@ -17,12 +17,9 @@ impl<'a> AliveBitSet<'a> {
     pub fn is_alive(&self, doc: u32) -> bool
         ensures { result ≡ bit_set self.now.words.now doc }
     {
-        let place = (doc / 64) as usize;
-        if place < self.words.len() {
-            let word = self.words[place];
-            (word >> (doc % 64)) & 1 == 1
-        } else {
-            false
+        match self.words.get((doc / 64) as usize) {
+            Some(word) => (*word >> (doc % 64)) & 1 == 1,
+            None => false,
         }
     }
 

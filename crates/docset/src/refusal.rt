@@ -47,14 +47,13 @@ impl Refusal {
         ensures { result ≡ place_of self.now }
     {
         match self {
-            Refusal::NotRising(place) => Some(*place),
-            Refusal::TooLarge(place) => Some(*place),
-            Refusal::SegmentTooLarge => None,
-            Refusal::WrongWordCount => None,
-            Refusal::BitPastEnd => None,
-            Refusal::TooManySets => None,
-            Refusal::MinimumZero => None,
-            Refusal::NotFinite => None,
+            Refusal::NotRising(place) | Refusal::TooLarge(place) => Some(*place),
+            Refusal::SegmentTooLarge
+            | Refusal::WrongWordCount
+            | Refusal::BitPastEnd
+            | Refusal::TooManySets
+            | Refusal::MinimumZero
+            | Refusal::NotFinite => None,
         }
     }
 }

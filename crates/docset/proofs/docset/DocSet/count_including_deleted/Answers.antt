@@ -1,9 +1,9 @@
 use Rattle.std.proofs.Common.{◌∙◌}
 use Rattle.docset.proofs.Walking.{count_starts, count_ends, weighed_one}
-use Rattle.docset.proofs.walk.count_all_by_advance.Goals as goal
+use Rattle.docset.proofs.docset.DocSet.count_including_deleted.Goals as goal
 
 pub loop-doc-init : goal.loop-doc-init
-loop-doc-init g c = count_starts _ _ _ c.here-doc.ensures
+loop-doc-init g c = count_starts _ _ _ c.doc-doc.ensures
 
 pub returns : goal.returns
 returns g c =
