@@ -1,5 +1,5 @@
 -- Sets that are probed one after another for one id.
-use Rattle.std.proofs.Common.{◌≡◌, ℕ, zero, suc, ◌+◌, ◌<◌, ◌≤◌, Bool, true, false, cond, ◌&&◌, ◌||◌, ltb, ◌⊎◌, List, [], ◌∷◌, map, length, get_or, drop, set, sym, refl, ap, ◌∙◌, subst, inl, inr, ⊎_elim, add-zero, zero-add, add-one, arith, drop_of_length-le}
+use Rattle.std.proofs.Common.{◌≡◌, ◌≢◌, ℕ, zero, suc, ◌+◌, ◌<◌, ◌≤◌, Bool, true, false, cond, ◌&&◌, ◌||◌, ltb, ◌⊎◌, List, [], ◌∷◌, map, length, get_or, drop, set, sym, refl, ap, ◌∙◌, subst, inl, inr, ⊎_elim, add-zero, zero-add, add-one, arith, drop_of_length-le}
 use Rattle.std.proofs.lemmas.Bool.{and_parts, cases_cond, cases_lt}
 use Rattle.std.proofs.lemmas.List.{length-map, get_or-map, get_or-drop, map-set, drop-map, drop_more, drop-set-lt}
 use Rattle.docset.specs.Meaning.{Meaning, Mark, steady, astray, lost, Pair, TERM, Known, calm, from, has}
@@ -7,7 +7,7 @@ use Rattle.docset.specs.Calls.{Probed, Marks}
 use Rattle.docset.specs.declared.docset.SeekDangerResult.{SeekDangerResult}
 use Rattle.docset.specs.declared.docset.SeekDangerResult.TheVariants.{Found, SeekLowerBound}
 use Rattle.docset.proofs.Lists.{steady_known, from_lt, from_ge, has_ne}
-use Rattle.bank.specs.Places.{at}
+use Rattle.bank.specs.Places.{Rows, ahead, rows_of, at}
 use Rattle.bank.specs.Holding.{is_known, held, all_known, AllKnown, reached, Trimmed, Trims, Untouched, Contained}
 
 -- ---- known marks
@@ -59,16 +59,18 @@ trimmed d m n r h =
 -- ---- the first set has the id
 
 pub found_first :
-    (d : ℕ) (m n : Meaning) (ms : List Meaning) (h i : ℕ) (hs : List ℕ) (p q : ℕ) (ps : List ℕ) → Probed d m n Found →
-    Contained d (m ∷ ms) (n ∷ ms) (h ∷ hs) (i ∷ hs) (p ∷ ps) (q ∷ ps) true
-found_first d m n ms h i hs p q ps a =
+    (d : ℕ) (m n : Meaning) (h i p q : ℕ) (rest : Rows) (r : SeekDangerResult) → r ≡ Found → Probed d m n r →
+    Contained d (ahead m h p rest) (ahead n i q rest) true
+found_first d m n h i p q rest r e o =
+    let ms = rest.places in
+    let a : Probed d m n Found = subst (λ (b : SeekDangerResult). Probed d m n b) e o in
     let told : AllKnown (m ∷ ms) → true ≡ has d m.pairs =
     λ k. (a.answers (is_then_known m.mark (and_parts (is_known m.mark) (all_known ms) k).0)).tells in
     record {
       answers = λ k. ap (λ (c : Bool). c || held d ms) (told k);
       trims = (trimmed d m n Found a, trims_same d ms);
       later = λ k.
-          subst (λ (c : Bool). Untouched (suc (cond c 0 (reached d ms))) (m ∷ ms) (n ∷ ms) (h ∷ hs) (i ∷ hs) (p ∷ ps) (q ∷ ps)) (told k)
+          subst (λ (c : Bool). Untouched (suc (cond c 0 (reached d ms))) (ahead m h p rest) (ahead n i q rest)) (told k)
           (record { lists = refl; guesses = refl; costs = refl });
     }
 
@@ -132,9 +134,10 @@ next_same es xs i x y w h e =
 
 -- one more set was probed, and does not have the id
 pub probing_more :
-    {X : Type 0} (f : X → Meaning) (d b : ℕ) (es xs : List X) (i : ℕ) (x y : X) → Probing f d es xs i → i < length xs →
-    Probed d (f (get_or xs i x)) (f y) (SeekLowerBound b) → Probing f d es (set xs i y) (suc i)
-probing_more f d b es xs i x y p h q =
+    {X : Type 0} (f : X → Meaning) (d : ℕ) (es xs : List X) (i : ℕ) (x y : X) (r : SeekDangerResult) → Probing f d es xs i →
+    i < length xs → r ≢ Found → Probed d (f (get_or xs i x)) (f y) r → Probing f d es (set xs i y) (suc i)
+probing_more f d es xs i x y Found p h n q = absurd (n refl)
+probing_more f d es xs i x y (SeekLowerBound b) p h n q =
     let w = wide f d es xs i p in
     let inside : i < length (map f es) = omega (arith, length-map es f) in
     let r = probed_here f d es xs i x (f y) (SeekLowerBound b) p (omega arith) q in
@@ -155,7 +158,7 @@ probing_more f d b es xs i x y p h q =
 -- sets whose later part is as it was
 untouched :
     {X : Type 0} (f : X → Meaning) (h p : X → ℕ) (es xs : List X) (j : ℕ) → drop j xs ≡ drop j es →
-    Untouched j (map f es) (map f xs) (map h es) (map h xs) (map p es) (map p xs)
+    Untouched j (rows_of f h p es) (rows_of f h p xs)
 untouched f h p es xs j e =
     record {
       lists = drop-map f j xs ∙ ap (map f) e ∙ sym (drop-map f j es);
@@ -165,10 +168,11 @@ untouched f h p es xs j e =
 
 -- the set at i has the id
 pub probing_found :
-    {X : Type 0} (f : X → Meaning) (h p : X → ℕ) (d : ℕ) (es xs : List X) (i : ℕ) (x y : X) → Probing f d es xs i →
-    i < length xs → Probed d (f (get_or xs i x)) (f y) Found →
-    Contained d (map f es) (map f (set xs i y)) (map h es) (map h (set xs i y)) (map p es) (map p (set xs i y)) true
-probing_found f h p d es xs i x y v l q =
+    {X : Type 0} (f : X → Meaning) (h p : X → ℕ) (d : ℕ) (es xs : List X) (i : ℕ) (x y : X) (r : SeekDangerResult) →
+    Probing f d es xs i → i < length xs → r ≡ Found → Probed d (f (get_or xs i x)) (f y) r →
+    Contained d (rows_of f h p es) (rows_of f h p (set xs i y)) true
+probing_found f h p d es xs i x y a v l z o =
+    let q : Probed d (f (get_or xs i x)) (f y) Found = subst (λ (b : SeekDangerResult). Probed d (f (get_or xs i x)) (f y) b) z o in
     let w = wide f d es xs i v in
     let inside : i < length (map f es) = omega (arith, length-map es f) in
     let r = probed_here f d es xs i x (f y) Found v (omega arith) q in
@@ -185,14 +189,14 @@ probing_found f h p d es xs i x y v l q =
           ap (λ (c : Bool). suc (cond c 0 (reached d (drop (suc i) (map f es))))) (present k) in
           let j : suc i ≡ reached d (map f es) = omega (arith, v.far k) in
           subst
-          (λ (k : ℕ). Untouched k (map f es) (map f (set xs i y)) (map h es) (map h (set xs i y)) (map p es) (map p (set xs i y)))
+          (λ (k : ℕ). Untouched k (rows_of f h p es) (rows_of f h p (set xs i y)))
           j (untouched f h p es (set xs i y) (suc i) (next_same es xs i x y w (omega arith) v.same));
     }
 
 -- no set has the id
 pub probing_ends :
     {X : Type 0} (f : X → Meaning) (h p : X → ℕ) (d : ℕ) (es xs : List X) (i : ℕ) → Probing f d es xs i → length es ≡ i →
-    Contained d (map f es) (map f xs) (map h es) (map h xs) (map p es) (map p xs) false
+    Contained d (rows_of f h p es) (rows_of f h p xs) false
 probing_ends f h p d es xs i v l =
     let past : drop i (map f es) ≡ [] = drop_of_length-le (map f es) {i = i} (omega (arith, length-map es f)) in
     record {
@@ -200,7 +204,7 @@ probing_ends f h p d es xs i v l =
       trims = v.trims;
       later = λ k.
           let j : i ≡ reached d (map f es) = omega (arith, v.far k, ap (reached d) past) in
-          subst (λ (k : ℕ). Untouched k (map f es) (map f xs) (map h es) (map h xs) (map p es) (map p xs)) j
+          subst (λ (k : ℕ). Untouched k (rows_of f h p es) (rows_of f h p xs)) j
           (untouched f h p es xs i v.same);
     }
 

@@ -1,6 +1,7 @@
 -- Whether any set of a bank lists an id.
 use Rattle.std.specs.Prelude.{◌≡◌, ℕ, suc, ◌≤◌, Bool, true, false, cond, ◌&&◌, ◌||◌, ◌⊎◌, List, [], ◌∷◌, length, drop}
 use Rattle.docset.specs.Meaning.{Meaning, Mark, steady, astray, lost, Known, from, has}
+use Rattle.bank.specs.Places.{Rows}
 
 -- whether any of the lists has the id
 abbrev pub held : ℕ → List Meaning → Bool
@@ -39,15 +40,15 @@ Trims d [] (n ∷ ns) = ⊥
 Trims d (m ∷ ms) [] = ⊥
 Trims d (m ∷ ms) (n ∷ ns) = Trimmed d m n × Trims d ms ns
 
--- from place j on, meanings, hints and costs are as they were
-pub record Untouched (j : ℕ) (ms ns : List Meaning) (hs is ps qs : List ℕ) : Type 0 where
-  pub lists : drop j ns ≡ drop j ms
-  pub guesses : drop j is ≡ drop j hs
-  pub costs : drop j qs ≡ drop j ps
+-- from place j on, all is as it was
+pub record Untouched (j : ℕ) (P Q : Rows) : Type 0 where
+  pub lists : drop j Q.places ≡ drop j P.places
+  pub guesses : drop j Q.hints ≡ drop j P.hints
+  pub costs : drop j Q.prices ≡ drop j P.prices
 
 -- `holds`: r says whether any list has d. The sets are trimmed at d, and those after the first that has it are not touched.
 -- A probe may change its set's hint and cost as it likes, so those of the sets that were probed are left free.
-pub record Contained (d : ℕ) (ms ns : List Meaning) (hs is ps qs : List ℕ) (r : Bool) : Type 0 where
-  pub answers : AllKnown ms → r ≡ held d ms
-  pub trims : Trims d ms ns
-  pub later : AllKnown ms → Untouched (reached d ms) ms ns hs is ps qs
+pub record Contained (d : ℕ) (P Q : Rows) (r : Bool) : Type 0 where
+  pub answers : AllKnown P.places → r ≡ held d P.places
+  pub trims : Trims d P.places Q.places
+  pub later : AllKnown P.places → Untouched (reached d P.places) P Q

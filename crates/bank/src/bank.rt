@@ -1,8 +1,8 @@
-ghost use Rattle.std.specs.Prelude.{◌≡◌, ℕ, ◌≤◌, min, List, [], ◌∷◌, length, slice_index};
-ghost use Rattle.docset.specs.Meaning.{Meaning, TERM};
+ghost use Rattle.std.specs.Prelude.{◌≡◌, ◌≤◌, min, length, slice_index};
+ghost use Rattle.docset.specs.Meaning.{TERM};
 ghost use Rattle.docset.specs.Calls.{Told, Moved, Sought, Probed, Scored};
 ghost use Rattle.docset.specs.declared.docset.SeekDangerResult.TheVariants.{SeekLowerBound};
-ghost use Rattle.bank.specs.Places.{at, Elsewhere, largest_usize};
+ghost use Rattle.bank.specs.Places.{Rows, no_rows, ahead, at, Elsewhere, largest_usize};
 ghost use Rattle.bank.specs.Holding.{Contained};
 
 use docset::docset::{DocSet, SeekDangerResult, TERMINATED};
@@ -10,58 +10,54 @@ use docset::scorer::Scorer;
 
 // Sets in a fixed order, each reached by its place, counted from 0.
 //
-// `places` is what each set means, `hints` and `prices` are what each guesses of itself, all three by place.
+// `rows` is what each set means and what it guesses of itself, by place.
 // A call at a place keeps the promise of the set that stands there and leaves every other set as it was.
 // Outside there is an empty set: it tells TERMINATED, 0.0 and 0, and nothing moves.
 pub trait Bank: Drop {
-    ghost places: { Self → List Meaning };
-
-    ghost hints: { Self → List ℕ };
-
-    ghost prices: { Self → List ℕ };
+    ghost rows: { Self → Rows };
 
     // How many sets there are, or the largest `usize` where there are more.
     fn len(&self) -> usize
-        ensures counts { result ≡ min (length (places self.now)) largest_usize }
-        ensures guessed { length (hints self.now) ≡ length (places self.now) }
-        ensures priced { length (prices self.now) ≡ length (places self.now) };
+        ensures counts { result ≡ min (length (rows self.now).places) largest_usize }
+        ensures guessed { length (rows self.now).hints ≡ length (rows self.now).places }
+        ensures priced { length (rows self.now).prices ≡ length (rows self.now).places };
 
     // The current document of the set at a place.
     fn doc_at(&self, place: usize) -> u32
-        ensures { Told (at (places self.now) place) result };
+        ensures { Told (at (rows self.now).places place) result };
 
     // The score of that document.
     fn score_at(&mut self, place: usize) -> f32
-        ensures tells { Scored (at (places self.old) place) (at (places self.new) place) result }
-        ensures others { Elsewhere place (places self.old) (places self.new) (hints self.old) (hints self.new) (prices self.old) (prices self.new) };
+        ensures tells { Scored (at (rows self.old).places place) (at (rows self.new).places place) result }
+        ensures others { Elsewhere place (rows self.old) (rows self.new) };
 
     // One set goes on to its next document.
     fn advance_at(&mut self, place: usize) -> u32
-        ensures moves { Moved (at (places self.old) place) (at (places self.new) place) result }
-        ensures others { Elsewhere place (places self.old) (places self.new) (hints self.old) (hints self.new) (prices self.old) (prices self.new) };
+        ensures moves { Moved (at (rows self.old).places place) (at (rows self.new).places place) result }
+        ensures others { Elsewhere place (rows self.old) (rows self.new) };
 
     // One set goes on to its first document at or past the target.
     fn seek_at(&mut self, place: usize, target: u32) -> u32
-        ensures moves { Sought target (at (places self.old) place) (at (places self.new) place) result }
-        ensures others { Elsewhere place (places self.old) (places self.new) (hints self.old) (hints self.new) (prices self.old) (prices self.new) };
+        ensures moves { Sought target (at (rows self.old).places place) (at (rows self.new).places place) result }
+        ensures others { Elsewhere place (rows self.old) (rows self.new) };
 
     // One set is probed. Outside the bound is TERMINATED.
     fn probe_at(&mut self, place: usize, target: u32) -> SeekDangerResult
-        ensures moves { Probed target (at (places self.old) place) (at (places self.new) place) result }
-        ensures others { Elsewhere place (places self.old) (places self.new) (hints self.old) (hints self.new) (prices self.old) (prices self.new) }
-        ensures outside { length (places self.old) ≤ place → result ≡ SeekLowerBound TERM };
+        ensures moves { Probed target (at (rows self.old).places place) (at (rows self.new).places place) result }
+        ensures others { Elsewhere place (rows self.old) (rows self.new) }
+        ensures outside { length (rows self.old).places ≤ place → result ≡ SeekLowerBound TERM };
 
     // One set's guess at the number of its documents.
     fn hint_at(&self, place: usize) -> u32
-        ensures { result ≡ slice_index (hints self.now) place };
+        ensures { result ≡ slice_index (rows self.now).hints place };
 
     // One set's guess at its work.
     fn cost_at(&self, place: usize) -> u64
-        ensures { result ≡ slice_index (prices self.now) place };
+        ensures { result ≡ slice_index (rows self.now).prices place };
 
     // Whether any of the sets lists the id. They are probed in their order up to the first that does.
     fn holds(&mut self, doc: u32) -> bool
-        ensures { Contained doc (places self.old) (places self.new) (hints self.old) (hints self.new) (prices self.old) (prices self.new) result };
+        ensures { Contained doc (rows self.old) (rows self.new) result };
 }
 
 // The bank with no set.
@@ -69,11 +65,7 @@ pub trait Bank: Drop {
 pub struct NoSets;
 
 impl Bank for NoSets {
-    ghost places = { λ b. [] };
-
-    ghost hints = { λ b. [] };
-
-    ghost prices = { λ b. [] };
+    ghost rows = { λ b. no_rows };
 
     fn len(&self) -> usize {
         0
@@ -112,7 +104,8 @@ impl Bank for NoSets {
     }
 }
 
-// A set of any type at place 0, and behind it the sets of another bank.
+// A set of any type at place 0, and behind it the sets of another bank. Each call at a place calls another method of the
+// set, which no common function can be handed: a count takes its set, so there is no `dyn DocSet`.
 #[derive(Drop)]
 pub struct Sets<S, B> {
     first: S,
@@ -129,11 +122,7 @@ impl<S: Scorer, B: Bank> Sets<S, B> {
 }
 
 impl<S: Scorer, B: Bank> Bank for Sets<S, B> {
-    ghost places = { λ b. S.DocSet.meaning b.first ∷ B.Bank.places b.rest };
-
-    ghost hints = { λ b. S.DocSet.hint b.first ∷ B.Bank.hints b.rest };
-
-    ghost prices = { λ b. S.DocSet.price b.first ∷ B.Bank.prices b.rest };
+    ghost rows = { λ b. ahead (S.DocSet.meaning b.first) (S.DocSet.hint b.first) (S.DocSet.price b.first) (B.Bank.rows b.rest) };
 
     fn len(&self) -> usize {
         self.rest.len().saturating_add(1)
@@ -196,9 +185,6 @@ impl<S: Scorer, B: Bank> Bank for Sets<S, B> {
     }
 
     fn holds(&mut self, doc: u32) -> bool {
-        match self.first.seek_danger(doc) {
-            SeekDangerResult::Found => true,
-            SeekDangerResult::SeekLowerBound(_) => self.rest.holds(doc),
-        }
+        self.first.seek_danger(doc) == SeekDangerResult::Found || self.rest.holds(doc)
     }
 }

@@ -1,4 +1,3 @@
-pub mod Finite
 pub mod Combined
 pub mod Bounded
 pub mod Cells

@@ -1,6 +1,6 @@
 -- Tallies, and what each combiner makes of scores. Every operation is rounded once in f32.
-use Rattle.std.specs.Prelude.{Bool, true, false, cond, T, List, [], ◌∷◌, Some, None, fold, Option, Float}
-use Rattle.std.specs.Float.{nan, inf, fin, binary32}
+use Rattle.std.specs.Prelude.{Bool, cond, T, List, Some, None, fold, Option, Float}
+use Rattle.std.specs.Float.{binary32, float_is_finite}
 use Rattle.std.specs.Float.Ieee.{of_bits, add, sub, mul, lt, eq}
 use Rattle.docset.specs.declared.refusal.Refusal.{Refusal}
 use Rattle.docset.specs.declared.refusal.Refusal.TheVariants.{NotFinite}
@@ -27,11 +27,6 @@ start = record { max = minus_infinity; sum = zero }
 abbrev pub combined : (Tally → Float → Tally) → (Tally → Float) → List Float → Float
 combined taken told xs = told (fold taken start xs)
 
--- the list of a score that may be missing
-abbrev pub as_list : Option Float → List Float
-as_list None = []
-as_list (Some x) = x ∷ []
-
 -- ---- SumCombiner
 
 -- the score is added
@@ -56,13 +51,11 @@ broken b t = cond (eq t.max minus_infinity) t.sum (add binary32 t.max (mul binar
 
 -- neither an infinity nor not a number
 abbrev pub finite : Float → Bool
-finite nan = false
-finite (inf s) = false
-finite (fin s m e) = true
+finite = float_is_finite
 
 -- 0.0 is finite
 pub zero_finite : T (finite zero)
-unfolding of_bits
+unfolding of_bits float_is_finite
 zero_finite = tt
 
 -- the refusal of a factor: of every one that is not finite, and of no other

@@ -1,6 +1,7 @@
-ghost use Rattle.std.specs.Prelude.{◌≡◌, Bool, true, false, T, List, ◌∷◌, length, Float};
+ghost use Rattle.std.specs.Prelude.{◌≡◌, Bool, true, false, refl, T, List, ◌∷◌, length, Float};
+ghost use Rattle.std.specs.Option.{option_to_list};
 ghost use Rattle.combiner.specs.declared.score_combiner.Tally.{Tally};
-ghost use Rattle.combiner.specs.Scores.{start, combined, as_list, zero, one, summed, unsigned, maxed, broken, finite, zero_finite, refusal_of, tie_breaker_of};
+ghost use Rattle.combiner.specs.Scores.{start, combined, zero, one, summed, unsigned, maxed, broken, finite, zero_finite, refusal_of, tie_breaker_of};
 ghost use Rattle.std.proofs.Common.{rules, arith};
 
 use docset::refusal::Refusal;
@@ -36,27 +37,19 @@ impl Tally {
 
 // A way to make one score of several. It keeps nothing of its own: the scores of a document go into that document's tally.
 //
-// `reads` is whether it reads scores, `taken` what it makes of a tally and a score, `told` the score that it tells
-// of a tally, and `plain` the combiner that is taken where none is asked for.
-pub trait ScoreCombiner: Drop + Sized {
-    // Whether scores are read. No contract can name it: `needs_scores` answers it, and `reads_scores` asks for it.
+// `taken` is what it makes of a tally and a score, `told` the score that it tells of a tally, and `plain` the combiner
+// that is taken where none is asked for.
+pub trait ScoreCombiner: Default + Drop + Sized {
+    // Whether scores are read.
     const READS_SCORES: bool;
 
-    ghost reads: { Bool };
+    ghost READS_SCORES: { Bool };
 
     ghost taken: { Self → Tally → Float → Tally };
 
     ghost told: { Self → Tally → Float };
 
     ghost plain: { Self };
-
-    // The combiner that is taken where none is asked for.
-    fn usual() -> Self
-        ensures { result ≡ plain };
-
-    // Whether scores are read: READS_SCORES.
-    fn needs_scores(&self) -> bool
-        ensures { result ≡ reads };
 
     // Takes one more score into a document's tally.
     fn take(&self, tally: &mut Tally, score: f32)
@@ -67,17 +60,20 @@ pub trait ScoreCombiner: Drop + Sized {
         ensures { result ≡ told self.now tally.now };
 
     // A score that is not read changes nothing.
-    ghost unread: { (c : Self) → (t : Tally) → (x y : Float) → reads ≡ false → taken c t x ≡ taken c t y };
+    ghost unread: { (c : Self) → (t : Tally) → (x y : Float) → READS_SCORES ≡ false → taken c t x ≡ taken c t y };
+
+    // `default` answers the plain combiner.
+    ghost usual: { (c : Self) → Self.is_default c → c ≡ plain };
 }
 
 // Reads no score, and tells 1.0 of every document.
-#[derive(Clone, Copy)]
+#[derive(Clone, Copy, Default)]
 pub struct DoNothingCombiner;
 
 impl ScoreCombiner for DoNothingCombiner {
     const READS_SCORES: bool = false;
 
-    ghost reads = { false };
+    ghost READS_SCORES = { false };
 
     ghost taken = { λ c t x. t };
 
@@ -87,13 +83,7 @@ impl ScoreCombiner for DoNothingCombiner {
 
     ghost unread = { Prim.search rules };
 
-    fn usual() -> Self {
-        DoNothingCombiner
-    }
-
-    fn needs_scores(&self) -> bool {
-        DoNothingCombiner::READS_SCORES
-    }
+    ghost usual = { λ c d. refl };
 
     fn take(&self, _tally: &mut Tally, _score: f32) {}
 
@@ -103,13 +93,13 @@ impl ScoreCombiner for DoNothingCombiner {
 }
 
 // Tells the sum of the scores.
-#[derive(Clone, Copy)]
+#[derive(Clone, Copy, Default)]
 pub struct SumCombiner;
 
 impl ScoreCombiner for SumCombiner {
     const READS_SCORES: bool = true;
 
-    ghost reads = { true };
+    ghost READS_SCORES = { true };
 
     ghost taken = { λ c. summed };
 
@@ -119,13 +109,7 @@ impl ScoreCombiner for SumCombiner {
 
     ghost unread = { Prim.search rules };
 
-    fn usual() -> Self {
-        SumCombiner
-    }
-
-    fn needs_scores(&self) -> bool {
-        SumCombiner::READS_SCORES
-    }
+    ghost usual = { λ c d. refl };
 
     fn take(&self, tally: &mut Tally, score: f32) {
         tally.sum += score;
@@ -152,31 +136,32 @@ fn unsigned_zero(score: f32) -> f32
     if score == 0.0 { 0.0 } else { score }
 }
 
-// Whether scores may be multiplied by this: it is neither infinite nor not a number.
-pub fn is_factor(value: f32) -> bool
-    ensures { result ≡ finite value }
-{
-    value.is_finite()
-}
-
 impl DisjunctionMaxCombiner {
     // The combiner with this tie-breaker. One that is infinite or not a number is refused, and the combiner has 0.0.
     pub fn with_tie_breaker(tie_breaker: f32) -> (Option<Refusal>, DisjunctionMaxCombiner)
         ensures refuses { result.0 ≡ refusal_of tie_breaker }
         ensures keeps { result.1.tie_breaker ≡ tie_breaker_of tie_breaker }
     {
-        if is_factor(tie_breaker) {
+        if tie_breaker.is_finite() {
             (None, DisjunctionMaxCombiner { tie_breaker })
         } else {
-            (Some(Refusal::NotFinite), Self::usual())
+            (Some(Refusal::NotFinite), Self::default())
         }
+    }
+}
+
+impl Default for DisjunctionMaxCombiner {
+    ghost is_default = { λ c. c ≡ record { tie_breaker = zero; bounded = zero_finite } };
+
+    fn default() -> Self {
+        DisjunctionMaxCombiner { tie_breaker: 0.0 }
     }
 }
 
 impl ScoreCombiner for DisjunctionMaxCombiner {
     const READS_SCORES: bool = true;
 
-    ghost reads = { true };
+    ghost READS_SCORES = { true };
 
     ghost taken = { λ c. maxed };
 
@@ -186,13 +171,7 @@ impl ScoreCombiner for DisjunctionMaxCombiner {
 
     ghost unread = { first_of (Prim.search rules, Prim.grind (arith, Self.row.coded.inj)) };
 
-    fn usual() -> Self {
-        DisjunctionMaxCombiner { tie_breaker: 0.0 }
-    }
-
-    fn needs_scores(&self) -> bool {
-        DisjunctionMaxCombiner::READS_SCORES
-    }
+    ghost usual = { λ c d. d };
 
     fn take(&self, tally: &mut Tally, score: f32) {
         let plain = unsigned_zero(score);
@@ -211,17 +190,18 @@ impl ScoreCombiner for DisjunctionMaxCombiner {
     }
 }
 
-// Whether generic code has to ask for scores. Where it need not, the law above says that any scores serve.
-pub fn reads_scores<C: ScoreCombiner>(c: &C) -> bool
-    ensures { result ≡ false → C.ScoreCombiner.reads ≡ false }
+// Whether generic code has to ask for scores. Where it need not, the law above says that any scores serve. The combiner
+// tells the type alone.
+pub fn reads_scores<C: ScoreCombiner>(_c: &C) -> bool
+    ensures { result ≡ C.ScoreCombiner.READS_SCORES }
 {
-    C::READS_SCORES || c.needs_scores()
+    C::READS_SCORES
 }
 
 // The combined score of some scores in order. Where no score is read it is that of any others, if they are as many.
 pub fn combine<C: ScoreCombiner>(c: &C, scores: &[f32]) -> f32
     ensures value { result ≡ combined (C.ScoreCombiner.taken c.now) (C.ScoreCombiner.told c.now) scores.now }
-    ensures unread { C.ScoreCombiner.reads ≡ false → (others : List Float) → length others ≡ length scores.now → result ≡ combined (C.ScoreCombiner.taken c.now) (C.ScoreCombiner.told c.now) others }
+    ensures unread { C.ScoreCombiner.READS_SCORES ≡ false → (others : List Float) → length others ≡ length scores.now → result ≡ combined (C.ScoreCombiner.taken c.now) (C.ScoreCombiner.told c.now) others }
 {
     let mut tally = Tally::new();
     for score in scores {
@@ -232,7 +212,7 @@ pub fn combine<C: ScoreCombiner>(c: &C, scores: &[f32]) -> f32
 
 // The combined score of one score, or of two.
 pub fn combine_two<C: ScoreCombiner>(c: &C, first: f32, second: Option<f32>) -> f32
-    ensures { result ≡ combined (C.ScoreCombiner.taken c.now) (C.ScoreCombiner.told c.now) (first ∷ as_list second) }
+    ensures { result ≡ combined (C.ScoreCombiner.taken c.now) (C.ScoreCombiner.told c.now) (first ∷ option_to_list second) }
 {
     match second {
         Some(second) => combine(c, &[first, second]),
@@ -267,10 +247,7 @@ mod tests {
         assert_eq!(rt; told(&SumCombiner, &[1.0, 2.0, 4.0]), 0x40e0_0000);
         assert_eq!(rt; told(&max_with(0.5), &[1.0, 4.0, 2.0]), 0x40b0_0000);
         assert_eq!(rt;
-            told(
-                &<DisjunctionMaxCombiner as ScoreCombiner>::usual(),
-                &[1.0, 4.0, 2.0]
-            ),
+            told(&DisjunctionMaxCombiner::default(), &[1.0, 4.0, 2.0]),
             0x4080_0000
         );
     }

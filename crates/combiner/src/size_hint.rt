@@ -1,5 +1,6 @@
 ghost use Rattle.std.specs.Prelude.{◌≡◌, ◌≤◌};
-ghost use Rattle.combiner.specs.Estimate.{times, within, estimate, union_estimate};
+ghost use Rattle.std.specs.Float.{◌≤ᶠ◌};
+ghost use Rattle.combiner.specs.Estimate.{zero, times, within, estimate, union_estimate};
 
 use std::num::saturating_f64_to_u32;
 
@@ -15,21 +16,19 @@ fn share_left(share: f64, size: u32, max_docs: f64) -> f64
 
 // The nearer end for a number outside 0 to max_docs, and max_docs for one that is not a number.
 fn clamped(union: f64, max_docs: f64) -> f64
+    requires { zero ≤ᶠ max_docs }
     ensures { result ≡ within max_docs union }
 {
     if union.is_nan() {
         max_docs
-    } else if union < 0.0 {
-        0.0
-    } else if union > max_docs {
-        max_docs
     } else {
-        union
+        union.clamp(0.0, max_docs)
     }
 }
 
 // The number of documents that some set has, given the share that no set has.
 fn estimated(share: f64, max_docs: f64) -> f64
+    requires { zero ≤ᶠ max_docs }
     ensures { result ≡ estimate max_docs share }
 {
     let union = (max_docs * (1.0 - share)).round();
@@ -45,10 +44,9 @@ pub fn estimate_union(sizes: &[u32], max_docs: u32) -> u32
         return 0;
     }
     let all = max_docs as f64;
-    let mut share = 1.0;
-    for size in sizes {
-        share = share_left(share, *size, all);
-    }
+    let share = sizes
+        .iter()
+        .fold(1.0, |share, size| share_left(share, *size, all));
     saturating_f64_to_u32(estimated(share, all))
 }
 

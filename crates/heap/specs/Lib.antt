@@ -3,4 +3,3 @@ pub mod Heaps
 pub mod Ranks
 pub mod Scores
 pub mod Orders
-pub mod Totals

@@ -1,13 +1,11 @@
-ghost use Rattle.std.specs.Prelude.{◌≡◌, from_bits, to_bits};
-ghost use Rattle.std.proofs.Common.{◌∙◌, sym, inl, inr, ⊎_elim};
+ghost use Rattle.std.specs.Prelude.{◌≡◌, from_bits, to_bits, refl};
 ghost use Rattle.std.specs.Float.{binary32};
-ghost use Rattle.heap.specs.Ranks.{lex};
-ghost use Rattle.heap.specs.Scores.{standing, ranked, depth as depth_of};
-ghost use Rattle.heap.specs.Scores;
-ghost use Rattle.heap.specs.Orders.{lex_total, lex_transitive};
-ghost use Rattle.heap.specs.Totals.{ranked_depth};
+ghost use Rattle.std.specs.Ordering.{as_partial_cmp, eq_by_cmp};
+ghost use Rattle.std.specs.Cmp.{eq_by_cmp_equiv, partial_equiv_from_equiv, partial_order_from_total};
+ghost use Rattle.heap.specs.Scores.{hit_cmp, depth as depth_of};
+ghost use Rattle.heap.specs.Orders.{hits_total};
 
-use super::order::Order;
+use std::cmp::Ordering;
 use std::num::f32_to_bits_with_nan;
 
 /// The pattern that stands for every NaN.
@@ -20,6 +18,7 @@ const INFINITY: u32 = 0x7F80_0000;
 const SIGN: u32 = 0x8000_0000;
 
 /// A document that was found, and the bits of its score. A pattern of a NaN ranks as 0x7FC00000, whichever it is.
+// Bits and no float, so that its order is one of numbers.
 #[derive(Clone, Copy)]
 pub struct Hit {
     pub bits: u32,
@@ -45,44 +44,54 @@ fn depth(bits: u32) -> u32
 {
     let size = bits % SIGN;
     if INFINITY < size {
-        return SIGN - 1 - NAN;
-    }
-    if bits < SIGN {
+        SIGN - 1 - NAN
+    } else if bits < SIGN {
         SIGN - 1 - size
     } else {
         SIGN + size
     }
 }
 
-/// Whether the first hit ranks at or before the second, by the depths of their bits and then by their ids.
-fn outranks(a: Hit, b: Hit) -> bool
-    ensures { result ≡ lex (depth_of a.bits) a.id (depth_of b.bits) b.id }
-{
-    let mine = depth(a.bits);
-    let theirs = depth(b.bits);
-    if mine != theirs {
-        return mine < theirs;
+// The comparisons are written by hand: derived ones have the lower bits first, and tell the patterns of a NaN apart.
+
+impl PartialEq for Hit {
+    ghost eq = { eq_by_cmp hit_cmp };
+
+    ghost laws = { partial_equiv_from_equiv (eq_by_cmp_equiv hits_total) };
+
+    fn eq(&self, other: &Hit) -> bool {
+        self.cmp(other).is_eq()
     }
-    a.id <= b.id
+}
+
+impl Eq for Hit {
+    ghost laws = { eq_by_cmp_equiv hits_total };
+}
+
+impl PartialOrd for Hit {
+    ghost partial_cmp = { as_partial_cmp hit_cmp };
+
+    ghost laws = { partial_order_from_total hits_total };
+
+    fn partial_cmp(&self, other: &Hit) -> Option<Ordering> {
+        Some(self.cmp(other))
+    }
 }
 
 /// The higher score stands first, by IEEE 754's totalOrder with a NaN above each number, and of equal scores the lower id.
-impl Order for Hit {
-    ghost before = { λ a b. ranked (standing (from_bits binary32 a.bits) (from_bits binary32 b.bits)) a.id b.id };
+impl Ord for Hit {
+    ghost cmp = { hit_cmp };
 
-    ghost total = { λ x y.
-        ⊎_elim
-        (λ e. inl (ranked_depth x.bits y.bits x.id y.id ∙ e))
-        (λ e. inr (ranked_depth y.bits x.bits y.id x.id ∙ e))
-        (lex_total (Scores.depth x.bits) x.id (Scores.depth y.bits) y.id) };
+    ghost total = { hits_total };
 
-    ghost transitive = { λ x y z p q.
-        ranked_depth x.bits z.bits x.id z.id
-        ∙ lex_transitive (Scores.depth x.bits) x.id (Scores.depth y.bits) y.id (Scores.depth z.bits) z.id
-        (sym (ranked_depth x.bits y.bits x.id y.id) ∙ p) (sym (ranked_depth y.bits z.bits y.id z.id) ∙ q) };
+    ghost matches_partial_cmp = { λ x y. refl };
 
-    fn at_or_before(&self, other: &Self) -> bool {
-        outranks(*self, *other)
+    ghost matches_eq = { λ x y. refl };
+
+    fn cmp(&self, other: &Hit) -> Ordering {
+        depth(self.bits)
+            .cmp(&depth(other.bits))
+            .then(self.id.cmp(&other.id))
     }
 }
 
@@ -101,11 +110,11 @@ mod tests {
             -1.5,
             f32::NEG_INFINITY,
         ];
-        for i in 1..7 {
-            let better = Hit::new(scores[i - 1], 9);
-            let worse = Hit::new(scores[i], 3);
-            assert!(rt; better.at_or_before(&worse));
-            assert!(rt; !worse.at_or_before(&better));
+        for pair in scores.windows(2) {
+            let better = Hit::new(pair[0], 9);
+            let worse = Hit::new(pair[1], 3);
+            assert!(rt; better <= worse);
+            assert!(rt; worse > better);
         }
     }
 
@@ -117,13 +126,13 @@ mod tests {
             bits: 0xFF80_0001,
             id: 4,
         };
-        assert!(rt; hit.at_or_before(&by_hand));
-        assert!(rt; !by_hand.at_or_before(&hit));
-        assert!(rt;
-            by_hand.at_or_before(&Hit {
-                bits: 0x7FC0_0000,
-                id: 4,
-            })
-        );
+        assert!(rt; hit <= by_hand);
+        assert!(rt; by_hand > hit);
+        let quiet = Hit {
+            bits: 0x7FC0_0000,
+            id: 4,
+        };
+        assert!(rt; by_hand <= quiet);
+        assert!(rt; by_hand == quiet);
     }
 }

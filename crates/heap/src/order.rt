@@ -1,39 +1,35 @@
-ghost use Rattle.std.specs.Prelude.{◌≡◌, Bool, true, ◌⊎◌};
+ghost use Rattle.std.specs.Prelude.{◌≡◌};
 ghost use Rattle.heap.specs.Ranks.{lex};
-ghost use Rattle.std.proofs.Common.{rules};
-
-/// Elements of which, whichever two are taken, one stands at or before the other.
-pub trait Order: Copy {
-    ghost before: { Self → Self → Bool };
-
-    /// Whether this element stands at or before the other.
-    fn at_or_before(&self, other: &Self) -> bool
-        ensures { result ≡ before self.now other.now };
-
-    ghost total: { (x y : Self) → (before x y ≡ true) ⊎ (before y x ≡ true) };
-
-    ghost transitive: { (x y z : Self) → before x y ≡ true → before y z ≡ true → before x z ≡ true };
-}
 
 /// The id that one of several lists has come to, and the place of that list among them.
-#[derive(Clone, Copy)]
+///
+/// The lower id stands first, and of equal ids the lower place: the order of the fields.
+#[derive(Clone, Copy, PartialEq, Eq, PartialOrd, Ord)]
 pub struct Entry {
     pub id: u32,
     pub place: usize,
 }
 
-/// The lower id stands first, and of equal ids the lower place.
-impl Order for Entry {
-    ghost before = { λ a b. lex a.id a.place b.id b.place };
+impl Entry {
+    /// Whether this entry stands at or before the other. What the derived order comes to, in one clause.
+    pub fn at_or_before(&self, other: &Entry) -> bool
+        ensures { result ≡ lex self.now.id self.now.place other.now.id other.now.place }
+    {
+        self <= other
+    }
+}
 
-    ghost total = { Prim.search rules };
+#[cfg(test)]
+mod tests {
+    use super::*;
 
-    ghost transitive = { Prim.search rules };
-
-    fn at_or_before(&self, other: &Self) -> bool {
-        if self.id != other.id {
-            return self.id < other.id;
-        }
-        self.place <= other.place
+    #[test]
+    fn ids_come_before_places(rt: HostRuntime) {
+        let first = Entry { id: 3, place: 9 };
+        let second = Entry { id: 4, place: 0 };
+        assert!(rt; first.at_or_before(&second));
+        assert!(rt; !second.at_or_before(&first));
+        assert!(rt; first.at_or_before(&first));
+        assert!(rt; !first.at_or_before(&Entry { id: 3, place: 8 }));
     }
 }

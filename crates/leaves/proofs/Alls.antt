@@ -1,7 +1,7 @@
 -- All documents of a segment.
-use Rattle.std.proofs.Common.{◌≡◌, ℕ, suc, ◌+◌, ◌-◌, ◌<◌, ◌≤◌, min, true, List, [], ◌∷◌, ◌++◌, length, take, drop, set, sym, refl, ap, ◌∙◌, inl, inr, ⊎_elim, arith}
+use Rattle.std.proofs.Common.{◌≡◌, ℕ, suc, ◌+◌, ◌-◌, ◌<◌, ◌≤◌, min, max, true, List, [], ◌∷◌, ◌++◌, length, take, drop, set, sym, refl, ap, ◌∙◌, inl, inr, ⊎_elim, drop_of_length-le, append-nil, arith}
 use Rattle.std.proofs.lemmas.Bool.{cases_lt}
-use Rattle.docset.specs.Meaning.{Meaning, Pair, TERM, calm, zero_score, one_score, ones}
+use Rattle.docset.specs.Meaning.{Meaning, RisingIds, Pair, TERM, calm, zero_score, one_score, ones}
 use Rattle.docset.specs.Calls.{Told, Moved, Sought, Scored, Filled, Counted}
 use Rattle.docset.proofs.Lists.{from_all}
 use Rattle.docset.proofs.Probes.{sought_told}
@@ -19,9 +19,12 @@ run_end lo hi h = between_end (λ _. true) lo hi h
 ids_small : (hi : ℕ) → hi ≤ TERM → (k : ℕ) → k < hi → true ≡ true → k < TERM
 ids_small hi s k h e = omega arith
 
+pub run_rises : (lo hi : ℕ) → hi ≤ TERM → RisingIds 0 (run lo hi)
+run_rises lo hi s = between_rises_0 (λ _. true) lo hi (ids_small hi s)
+
 pub all_told : (lo hi : ℕ) → hi ≤ TERM → lo < hi → Told (calm (ones (run lo hi))) lo
 all_told lo hi s h =
-    told_cons (run lo hi) lo (run (suc lo) hi) (between_rises_0 (λ _. true) lo hi (ids_small hi s)) (run_cons lo hi h)
+    told_cons (run lo hi) lo (run (suc lo) hi) (run_rises lo hi s) (run_cons lo hi h)
 
 pub all_told_end : (lo hi : ℕ) → hi ≤ lo → Told (calm (ones (run lo hi))) 2147483647
 all_told_end lo hi h = told_end (run lo hi) (run_end lo hi h)
@@ -31,8 +34,10 @@ pub all_moved :
     Moved (calm (ones (run lo hi))) (calm (ones (run (suc lo) hi))) d
 all_moved lo hi d h t = moved_cons (run lo hi) lo (run (suc lo) hi) d (run_cons lo hi h) t
 
-pub all_stays : (lo hi : ℕ) → hi ≤ lo → Moved (calm (ones (run lo hi))) (calm (ones (run lo hi))) 2147483647
-all_stays lo hi h = moved_end (run lo hi) (run_end lo hi h)
+-- where it has ended it stays
+pub all_stays :
+    (lo hi d : ℕ) → hi ≤ lo → Told (calm (ones (run lo hi))) d → Moved (calm (ones (run lo hi))) (calm (ones (run lo hi))) d
+all_stays lo hi d h t = moved_end (run lo hi) d (run_end lo hi h) t
 
 -- from t on, or from the end
 run_min : (t hi : ℕ) → run t hi ≡ run (min t hi) hi
@@ -42,20 +47,22 @@ run_min t hi =
     (λ h. run_end t hi h ∙ sym (run_end (min t hi) hi (omega arith)))
     (cases_lt t hi)
 
+-- a seek of t goes to t, but neither back nor past the end
 pub all_sought :
-    (t lo hi j d : ℕ) → hi ≤ TERM → lo ≤ t → j ≡ min t hi → Told (calm (ones (run j hi))) d →
+    (t lo hi j d : ℕ) → hi ≤ TERM → lo ≤ hi → j ≡ max lo (min t hi) → Told (calm (ones (run j hi))) d →
     Sought t (calm (ones (run lo hi))) (calm (ones (run j hi))) d
-all_sought t lo hi j d s h e =
+all_sought t lo hi j d s l e =
+    ⊎_elim {C = Told (calm (ones (run j hi))) d → Sought t (calm (ones (run lo hi))) (calm (ones (run j hi))) d}
+    (λ h u.
+    let i : min t hi ≡ j = omega arith in
     sought_told t (ones (run lo hi)) (ones (run j hi)) d
-    (from_between (λ _. true) lo t hi h (ids_small hi s) ∙ ap ones (run_min t hi ∙ ap (λ (x : ℕ). run x hi) (sym e)))
-
--- a target that was passed already
-pub all_kept :
-    (t lo hi d : ℕ) → hi ≤ TERM → lo ≤ hi → t ≤ lo → Told (calm (ones (run lo hi))) d →
-    Sought t (calm (ones (run lo hi))) (calm (ones (run lo hi))) d
-all_kept t lo hi d s l h =
+    (from_between (λ _. true) lo t hi (omega arith) (ids_small hi s) ∙ ap ones (run_min t hi ∙ ap (λ (x : ℕ). run x hi) i)) u)
+    (λ h u.
+    let i : lo ≡ j = omega arith in
     let k = first_least lo (run lo hi) (omega arith) (between_rises (λ _. true) lo hi (ids_small hi s)) in
-    sought_told t (ones (run lo hi)) (ones (run lo hi)) d (from_all t (ones (run lo hi)) (omega arith))
+    sought_told t (ones (run lo hi)) (ones (run j hi)) d
+    (from_all t (ones (run lo hi)) (omega arith) ∙ ap (λ (x : ℕ). ones (run x hi)) i) u)
+    (cases_lt lo t)
 
 pub all_scored : (lo hi : ℕ) → lo < hi → Scored (calm (ones (run lo hi))) (calm (ones (run lo hi))) one_score
 all_scored lo hi h = scored_cons (run lo hi) lo (run (suc lo) hi) (run_cons lo hi h)
@@ -81,11 +88,16 @@ written_more lo n i old new h k w =
     ap (λ (x : ℕ). set (take i (those (λ _. true) lo n) ++ drop i old) i x) (sym (run_at lo n i h)) ∙
     set_seam (those (λ _. true) lo n) old i (omega (arith, run_length lo n)) k
 
-pub written_all : (lo n : ℕ) (old new : List ℕ) → Written lo n n old new → new ≡ run lo (lo + n) ++ drop n old
+pub written_all : (lo : ℕ) (old new : List ℕ) → Written lo (length old) (length old) old new → new ≡ run lo (lo + length old)
 unfolding Written
-written_all lo n old new w =
+written_all lo old new w =
+    let n : ℕ = length old in
     let e : lo + n - lo ≡ n = omega arith in
-    w ∙ ap (λ (l : List ℕ). l ++ drop n old) (run_take lo n n (omega arith) ∙ sym (ap (those (λ _. true) lo) e))
+    w ∙
+    ap (λ (l : List ℕ). take n (those (λ _. true) lo n) ++ l) (drop_of_length-le old {i = n} (omega arith)) ∙
+    append-nil (take n (those (λ _. true) lo n)) ∙
+    run_take lo n n (omega arith) ∙
+    sym (ap (those (λ _. true) lo) e)
 
 pub written_none : (lo n : ℕ) (old : List ℕ) → Written lo n 0 old old
 unfolding Written

@@ -1,5 +1,5 @@
 -- Leaves over bits: where one stands, and where it goes.
-use Rattle.std.proofs.Common.{◌≡◌, ℕ, suc, ◌*◌, ◌<◌, ◌≤◌, Bool, true, false, cond, eqb, ltb, List, [], ◌∷◌, length, Some, None, Option, unwrap_or, sym, refl, ap, ◌∙◌, subst, ⊎_elim, arith}
+use Rattle.std.proofs.Common.{slice_get, ◌≡◌, ℕ, suc, ◌*◌, ◌<◌, ◌≤◌, Bool, true, false, cond, eqb, ltb, List, [], ◌∷◌, length, Some, None, Option, unwrap_or, sym, refl, ap, ◌∙◌, subst, ⊎_elim, arith}
 use Rattle.std.proofs.lemmas.Bool.{cases_lt, cases_eq, ltb-false, eqb-true, eq-eqb, ne_eqb}
 use Rattle.docset.specs.Meaning.{TERM, calm, ones, one_score, zero_score, RisingIds}
 use Rattle.docset.specs.Calls.{Told, Moved, Sought, Scored}
@@ -7,7 +7,7 @@ use Rattle.docset.specs.Bits.{bit_set}
 use Rattle.docset.specs.declared.refusal.Refusal.TheVariants.{SegmentTooLarge, WrongWordCount, BitPastEnd}
 use Rattle.docset.proofs.Lists.{from_all}
 use Rattle.docset.proofs.Probes.{sought_told}
-use Rattle.leaves.specs.Bits.{bits_from, first_of, stands, past_end, words_for, bits_refusal}
+use Rattle.leaves.specs.Bits.{bits_from, stands, past_end, words_for, bits_refusal}
 use Rattle.leaves.proofs.Leaves.{told_cons, told_end, moved_cons, moved_end, scored_cons, scored_end}
 use Rattle.leaves.proofs.Ranges.{between_hit, between_none, between_rises_0, from_between, first_cut, some_between, none_between}
 use Rattle.leaves.proofs.Words.{bit_past}
@@ -18,7 +18,7 @@ some_none x e = let z : ◌≡◌ {A = ℕ} 0 1 = cc in omega arith
 true_false : true ≡ false → ⊥
 true_false e = let z : ◌≡◌ {A = ℕ} 0 1 = cc in omega arith
 
-nothing_first : (xs : List ℕ) → first_of xs ≡ None → xs ≡ []
+nothing_first : (xs : List ℕ) → slice_get xs 0 ≡ None → xs ≡ []
 nothing_first [] e = refl
 nothing_first (x ∷ xs) e = absurd (some_none x e)
 
@@ -43,7 +43,7 @@ module _ (ws : List ℕ) (max : ℕ) (s : max ≤ TERM) (clear : (k : ℕ) → m
   ids_small : (k : ℕ) → k < 64 * length ws → bit_set ws k ≡ true → k < TERM
   ids_small k h e = ⊎_elim {C = k < TERM} (λ l. omega arith) (λ l. absurd (true_false (sym e ∙ clear k l))) (cases_lt k max)
 
-  bits_rise : (lo : ℕ) → RisingIds 0 (bits_from ws lo)
+  pub bits_rise : (lo : ℕ) → RisingIds 0 (bits_from ws lo)
   bits_rise lo = between_rises_0 (bit_set ws) lo (64 * length ws) ids_small
 
   pub bits_none : (lo : ℕ) → max ≤ lo → bits_from ws lo ≡ []
@@ -65,20 +65,20 @@ module _ (ws : List ℕ) (max : ℕ) (s : max ≤ TERM) (clear : (k : ℕ) → m
       (cases_eq d TERM)
 
   -- the first bit from t on, or the end
-  module _ (t r : ℕ) (e : r ≡ unwrap_or (first_of (bits_from ws t)) TERM) where
+  module _ (t r : ℕ) (e : r ≡ unwrap_or (slice_get (bits_from ws t) 0) TERM) where
     pub next_stands : stands ws r ≡ true
-    next_stands = by_first (first_of (bits_from ws t)) refl
+    next_stands = by_first (slice_get (bits_from ws t) 0) refl
       where
-        by_first : (o : Option ℕ) → first_of (bits_from ws t) ≡ o → stands ws r ≡ true
+        by_first : (o : Option ℕ) → slice_get (bits_from ws t) 0 ≡ o → stands ws r ≡ true
         by_first None z = stands_end ws r (e ∙ ap (λ (x : Option ℕ). unwrap_or x TERM) z)
         by_first (Some x) z =
             let y : r ≡ x = e ∙ ap (λ (w : Option ℕ). unwrap_or w TERM) z in
             stands_set ws r (ap (bit_set ws) y ∙ (some_between (bit_set ws) t (64 * length ws) x z).passes)
 
     pub next_cut : bits_from ws t ≡ bits_from ws r
-    next_cut = by_first (first_of (bits_from ws t)) refl
+    next_cut = by_first (slice_get (bits_from ws t) 0) refl
       where
-        by_first : (o : Option ℕ) → first_of (bits_from ws t) ≡ o → bits_from ws t ≡ bits_from ws r
+        by_first : (o : Option ℕ) → slice_get (bits_from ws t) 0 ≡ o → bits_from ws t ≡ bits_from ws r
         by_first None z =
             nothing_first (bits_from ws t) z ∙ sym (bits_end r (e ∙ ap (λ (x : Option ℕ). unwrap_or x TERM) z))
         by_first (Some x) z =
@@ -87,14 +87,14 @@ module _ (ws : List ℕ) (max : ℕ) (s : max ≤ TERM) (clear : (k : ℕ) → m
             ap (bits_from ws) (sym y)
 
   pub bits_moved :
-      (d r : ℕ) → stands ws d ≡ true → (d ≡ TERM → ⊥) → r ≡ unwrap_or (first_of (bits_from ws (suc d))) TERM →
+      (d r : ℕ) → stands ws d ≡ true → (d ≡ TERM → ⊥) → r ≡ unwrap_or (slice_get (bits_from ws (suc d)) 0) TERM →
       Moved (calm (ones (bits_from ws d))) (calm (ones (bits_from ws r))) r
   bits_moved d r e ne n =
       moved_cons (bits_from ws d) d (bits_from ws r) r
       (bits_cons d e ne ∙ ap (λ (l : List ℕ). d ∷ l) (next_cut (suc d) r n)) (bits_told r (next_stands (suc d) r n))
 
-  pub bits_stay : (d : ℕ) → d ≡ TERM → Moved (calm (ones (bits_from ws d))) (calm (ones (bits_from ws d))) 2147483647
-  bits_stay d e = moved_end (bits_from ws d) (bits_end d e)
+  pub bits_stay : (d : ℕ) → d ≡ TERM → Moved (calm (ones (bits_from ws d))) (calm (ones (bits_from ws d))) d
+  bits_stay d e = moved_end (bits_from ws d) d (bits_end d e) (bits_told d (stands_end ws d e))
 
   pub bits_sought :
       (t d r : ℕ) → d ≤ t → stands ws r ≡ true → bits_from ws t ≡ bits_from ws r →
@@ -126,15 +126,7 @@ module _ (ws : List ℕ) (max : ℕ) (s : max ≤ TERM) (clear : (k : ℕ) → m
 
 -- ---- the check of the last word
 
-pub past_none : (xs : List ℕ) → first_of xs ≡ None → None ≡ past_end xs
-past_none [] e = refl
-past_none (x ∷ xs) e = absurd (some_none x e)
-
-pub past_some : (xs : List ℕ) (x : ℕ) → first_of xs ≡ Some x → Some BitPastEnd ≡ past_end xs
-past_some [] x e = absurd (some_none x (sym e))
-past_some (y ∷ xs) x e = refl
-
-none_past : (xs : List ℕ) → past_end xs ≡ None → first_of xs ≡ None
+none_past : (xs : List ℕ) → past_end xs ≡ None → slice_get xs 0 ≡ None
 none_past [] e = refl
 none_past (x ∷ xs) e = absurd (some_none BitPastEnd e)
 

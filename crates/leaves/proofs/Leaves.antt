@@ -1,8 +1,11 @@
 -- Leaves as lists: what a leaf tells when it stands on, passes or has passed its last id.
-use Rattle.std.proofs.Common.{◌≡◌, ℕ, zero, suc, ◌-◌, ◌<◌, ◌≤◌, List, [], ◌∷◌, length, get_or, drop, sym, refl, ap, ◌∙◌, subst, inl, inr, le_of_suc-le-suc, not-suc-le-zero, arith, length-drop, drop_of_length-le}
-use Rattle.docset.specs.Meaning.{TERM, calm, ids, first_id, zero_score, one_score, ones, Rising, RisingIds}
-use Rattle.docset.specs.Calls.{Told, Moved, Scored, Counted}
+use Rattle.std.proofs.Common.{◌≡◌, ℕ, zero, suc, ◌-◌, ◌<◌, ◌≤◌, cond, eqb, List, [], ◌∷◌, length, get_or, drop, sym, refl, ap, ◌∙◌, subst, inl, inr, le_of_suc-le-suc, not-suc-le-zero, arith, length-drop, drop_of_length-le}
+use Rattle.docset.specs.Meaning.{Meaning, TERM, calm, ids, first_id, zero_score, one_score, ones, Rising, RisingIds}
+use Rattle.docset.specs.Calls.{Told, Moved, Sought, Probed, Scored, Counted}
+use Rattle.docset.specs.declared.docset.SeekDangerResult.{SeekDangerResult}
+use Rattle.docset.specs.declared.docset.SeekDangerResult.TheVariants.{Found, SeekLowerBound}
 use Rattle.docset.proofs.Lists.{short_from, lower}
+use Rattle.docset.proofs.Probes.{always, probe_past, probe_sought}
 use Rattle.leaves.specs.Lists.{listed, Small, Rises}
 
 -- ---- a list of ids, each at 1.0
@@ -55,8 +58,11 @@ pub moved_cons :
     Moved (calm (ones xs)) (calm (ones ys)) d
 moved_cons xs x ys d e t = subst (λ (l : List ℕ). Moved (calm (ones l)) (calm (ones ys)) d) (sym e) (moved_ones x ys d t)
 
-pub moved_end : (xs : List ℕ) → xs ≡ [] → Moved (calm (ones xs)) (calm (ones xs)) TERM
-moved_end xs e = subst (λ (l : List ℕ). Moved (calm (ones l)) (calm (ones l)) TERM) (sym e) moved_none
+pub moved_end :
+    (xs : List ℕ) (d : ℕ) → xs ≡ [] → Told (calm (ones xs)) d → Moved (calm (ones xs)) (calm (ones xs)) d
+moved_end xs d e t = let at : d ≡ TERM = t.tells refl ∙ ap (λ (l : List ℕ). first_id (ones l)) e in
+    subst (λ (x : ℕ). Moved (calm (ones xs)) (calm (ones xs)) x) (sym at)
+    (subst (λ (l : List ℕ). Moved (calm (ones l)) (calm (ones l)) TERM) (sym e) moved_none)
 
 pub scored_cons : (xs : List ℕ) (x : ℕ) (ys : List ℕ) → xs ≡ x ∷ ys → Scored (calm (ones xs)) (calm (ones xs)) one_score
 scored_cons xs x ys e =
@@ -104,17 +110,30 @@ slice_cons (x ∷ xs) (suc c) h = slice_cons xs c (le_of_suc-le-suc h)
 pub slice_none : (xs : List ℕ) (c : ℕ) → length xs ≤ c → drop c xs ≡ []
 slice_none xs c h = drop_of_length-le xs {i = c} h
 
-pub slice_told : (xs : List ℕ) (c : ℕ) → Small xs (length xs) → Rises xs (length xs) → c < length xs → Told (listed xs c) (get_or xs c 0)
-slice_told xs c s r h = told_cons (drop c xs) (get_or xs c 0) (drop (suc c) xs) (slice_rises xs c s r) (slice_cons xs c h)
+-- the id at a place, or TERM past the last, is the first of what is left
+first_at : (xs : List ℕ) (c : ℕ) → get_or xs c TERM ≡ first_id (ones (drop c xs))
+first_at [] zero = refl
+first_at [] (suc c) = refl
+first_at (x ∷ xs) zero = refl
+first_at (x ∷ xs) (suc c) = first_at xs c
 
-pub slice_told_end : (xs : List ℕ) (c : ℕ) → length xs ≤ c → Told (listed xs c) 2147483647
-slice_told_end xs c h = told_end (drop c xs) (slice_none xs c h)
+first_small : (xs : List ℕ) → RisingIds 0 xs → first_id (ones xs) ≤ TERM
+first_small [] r = omega arith
+first_small (x ∷ xs) r = omega (arith, r.1)
+
+pub slice_told :
+    (xs : List ℕ) (c d : ℕ) → Small xs (length xs) → Rises xs (length xs) → d ≡ get_or xs c TERM → Told (listed xs c) d
+slice_told xs c d s r e =
+    let rises = slice_rises xs c s r in
+    let at : d ≡ first_id (ones (drop c xs)) = e ∙ first_at xs c in
+    told_ones (drop c xs) d rises at (omega (arith, first_small (drop c xs) rises))
 
 pub slice_moved : (xs : List ℕ) (c d : ℕ) → c < length xs → Told (listed xs (suc c)) d → Moved (listed xs c) (listed xs (suc c)) d
 slice_moved xs c d h t = moved_cons (drop c xs) (get_or xs c 0) (drop (suc c) xs) d (slice_cons xs c h) t
 
-pub slice_stays : (xs : List ℕ) (c : ℕ) → length xs ≤ c → Moved (listed xs c) (listed xs c) 2147483647
-slice_stays xs c h = moved_end (drop c xs) (slice_none xs c h)
+pub slice_stays :
+    (xs : List ℕ) (c d : ℕ) → length xs ≤ c → Told (listed xs c) d → Moved (listed xs c) (listed xs c) d
+slice_stays xs c d h t = moved_end (drop c xs) d (slice_none xs c h) t
 
 pub slice_scored : (xs : List ℕ) (c : ℕ) → c < length xs → Scored (listed xs c) (listed xs c) one_score
 slice_scored xs c h = scored_cons (drop c xs) (get_or xs c 0) (drop (suc c) xs) (slice_cons xs c h)
@@ -124,3 +143,19 @@ slice_scored_end xs c h = scored_end (drop c xs) (slice_none xs c h)
 
 pub slice_counted : (xs : List ℕ) (c : ℕ) → Counted (listed xs c) (length xs - c)
 slice_counted xs c = record { tells = λ _. sym (length_ones (drop c xs) ∙ length-drop c xs) }
+
+-- ---- probes
+
+-- a target that is no id
+pub probed_past :
+    (t : ℕ) (xs : List ℕ) → RisingIds 0 xs → TERM ≤ t → Probed t (calm (ones xs)) (calm (ones xs)) (SeekLowerBound 2147483647)
+probed_past t xs r h =
+    always t (calm (ones xs)) (calm (ones xs)) (SeekLowerBound TERM) refl
+    (probe_past t (calm (ones xs)) h (λ _. rising_ones 0 xs r))
+
+-- any other, which was sought
+pub probed_sought :
+    (t : ℕ) (xs : List ℕ) (n : Meaning) (d : ℕ) (r : SeekDangerResult) → RisingIds 0 xs → t < TERM →
+    Sought t (calm (ones xs)) n d → r ≡ cond (eqb d t) Found (SeekLowerBound d) → Probed t (calm (ones xs)) n r
+probed_sought t xs n d r q h s e =
+    always t (calm (ones xs)) n r refl (probe_sought t (calm (ones xs)) n d r h (λ _. rising_ones 0 xs q) s e)

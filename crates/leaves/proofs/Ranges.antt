@@ -1,10 +1,9 @@
 -- Ranges of numbers that pass a test: their ends, their steps, their order, and what a seek leaves of them.
-use Rattle.std.proofs.Common.{◌≡◌, ℕ, zero, suc, ◌+◌, ◌-◌, ◌<◌, ◌≤◌, Bool, true, false, cond, ◌⊎◌, List, [], ◌∷◌, length, get_or, take, drop, Some, None, Option, sym, refl, ap, ◌∙◌, subst, inl, inr, ⊎_elim, arith}
+use Rattle.std.proofs.Common.{slice_get, ◌≡◌, ℕ, zero, suc, ◌+◌, ◌-◌, ◌<◌, ◌≤◌, Bool, true, false, cond, ◌⊎◌, List, [], ◌∷◌, length, get_or, take, drop, Some, None, Option, sym, refl, ap, ◌∙◌, subst, inl, inr, ⊎_elim, arith}
 use Rattle.docset.specs.Meaning.{TERM, first_id, one_score, ones, from, RisingIds}
 use Rattle.docset.proofs.Lists.{from_lt, from_all, lower}
 use Rattle.std.proofs.lemmas.Bool.{cases_lt}
 use Rattle.leaves.specs.Ranges.{those, between}
-use Rattle.leaves.specs.Bits.{first_of}
 
 -- ---- one number
 
@@ -147,14 +146,14 @@ first_between f lo hi x h = between_skip f lo x hi h.low h.before ∙ between_hi
 pub first_cut : (f : ℕ → Bool) (lo hi x : ℕ) → First f lo hi x → between f lo hi ≡ between f x hi
 first_cut f lo hi x h = between_skip f lo x hi h.low h.before
 
-pub first_is : (f : ℕ → Bool) (lo hi x : ℕ) → First f lo hi x → first_of (between f lo hi) ≡ Some x
-first_is f lo hi x h = ap first_of (first_between f lo hi x h)
+pub first_is : (f : ℕ → Bool) (lo hi x : ℕ) → First f lo hi x → slice_get (between f lo hi) 0 ≡ Some x
+first_is f lo hi x h = ap (λ (l : List ℕ). slice_get l 0) (first_between f lo hi x h)
 
-pub none_is : (f : ℕ → Bool) (lo hi : ℕ) → ((k : ℕ) → lo ≤ k → k < hi → f k ≡ false) → first_of (between f lo hi) ≡ None
+pub none_is : (f : ℕ → Bool) (lo hi : ℕ) → ((k : ℕ) → lo ≤ k → k < hi → f k ≡ false) → slice_get (between f lo hi) 0 ≡ None
 none_is f lo hi h =
-    ⊎_elim {C = first_of (between f lo hi) ≡ None}
-    (λ l. ap first_of (between_skip f lo hi hi (omega arith) h ∙ between_end f hi hi (omega arith)))
-    (λ l. ap first_of (between_end f lo hi l))
+    ⊎_elim {C = slice_get (between f lo hi) 0 ≡ None}
+    (λ l. ap (λ (l : List ℕ). slice_get l 0) (between_skip f lo hi hi (omega arith) h ∙ between_end f hi hi (omega arith)))
+    (λ l. ap (λ (l : List ℕ). slice_get l 0) (between_end f lo hi l))
     (cases_lt lo hi)
 
 -- and back: what the first tells of the range
@@ -165,12 +164,12 @@ at_or_above : (lo k : ℕ) → lo ≤ k → (k ≡ lo) ⊎ (suc lo ≤ k)
 at_or_above lo k h = ⊎_elim (λ l. inr l) (λ l. inl (omega arith)) (cases_lt lo k)
 
 none_step :
-    (f : ℕ → Bool) (lo n : ℕ) (b : Bool) → f lo ≡ b → first_of (those f lo (suc n)) ≡ None →
-    (f lo ≡ false) × (first_of (those f (suc lo) n) ≡ None)
-none_step f lo n true e h = absurd (some_none lo (sym (ap first_of (those_hit f lo n e)) ∙ h))
-none_step f lo n false e h = (e, sym (ap first_of (those_miss f lo n e)) ∙ h)
+    (f : ℕ → Bool) (lo n : ℕ) (b : Bool) → f lo ≡ b → slice_get (those f lo (suc n)) 0 ≡ None →
+    (f lo ≡ false) × (slice_get (those f (suc lo) n) 0 ≡ None)
+none_step f lo n true e h = absurd (some_none lo (sym (ap (λ (l : List ℕ). slice_get l 0) (those_hit f lo n e)) ∙ h))
+none_step f lo n false e h = (e, sym (ap (λ (l : List ℕ). slice_get l 0) (those_miss f lo n e)) ∙ h)
 
-none_those : (f : ℕ → Bool) (lo n : ℕ) → first_of (those f lo n) ≡ None → (k : ℕ) → lo ≤ k → k < lo + n → f k ≡ false
+none_those : (f : ℕ → Bool) (lo n : ℕ) → slice_get (those f lo n) 0 ≡ None → (k : ℕ) → lo ≤ k → k < lo + n → f k ≡ false
 none_those f lo zero e k a b = absurd (omega arith)
 none_those f lo (suc n) e k a b =
     let s = none_step f lo n (f lo) refl e in
@@ -179,7 +178,7 @@ none_those f lo (suc n) e k a b =
     (λ z. none_those f (suc lo) n s.1 k z (omega arith))
     (at_or_above lo k a)
 
-pub none_between : (f : ℕ → Bool) (lo hi : ℕ) → first_of (between f lo hi) ≡ None → (k : ℕ) → lo ≤ k → k < hi → f k ≡ false
+pub none_between : (f : ℕ → Bool) (lo hi : ℕ) → slice_get (between f lo hi) 0 ≡ None → (k : ℕ) → lo ≤ k → k < hi → f k ≡ false
 none_between f lo hi e k a b = none_those f lo (hi - lo) e k a (omega arith)
 
 later : (f : ℕ → Bool) (lo hi x : ℕ) → f lo ≡ false → First f (suc lo) hi x → First f lo hi x
@@ -191,16 +190,16 @@ later f lo hi x e h =
       before = λ k a b. ⊎_elim {C = f k ≡ false} (λ z. ap f z ∙ e) (λ z. h.before k z b) (at_or_above lo k a);
     }
 
-some_those : (f : ℕ → Bool) (lo n x : ℕ) → first_of (those f lo n) ≡ Some x → First f lo (lo + n) x
+some_those : (f : ℕ → Bool) (lo n x : ℕ) → slice_get (those f lo n) 0 ≡ Some x → First f lo (lo + n) x
 unfolding those
 some_those f lo zero x e = absurd (some_none x (sym e))
 some_those f lo (suc n) x e = some_step (f lo) refl (some_those f (suc lo) n x)
   where
     some_step :
-        (b : Bool) → f lo ≡ b → (first_of (those f (suc lo) n) ≡ Some x → First f (suc lo) (suc lo + n) x) →
+        (b : Bool) → f lo ≡ b → (slice_get (those f (suc lo) n) 0 ≡ Some x → First f (suc lo) (suc lo + n) x) →
         First f lo (lo + suc n) x
     some_step true z ih =
-        let y : ◌≡◌ {A = Option ℕ} (Some lo) (Some x) = sym (ap first_of (those_hit f lo n z)) ∙ e in
+        let y : ◌≡◌ {A = Option ℕ} (Some lo) (Some x) = sym (ap (λ (l : List ℕ). slice_get l 0) (those_hit f lo n z)) ∙ e in
         let w : lo ≡ x = cc in
         record {
           low = omega arith;
@@ -210,15 +209,15 @@ some_those f lo (suc n) x e = some_step (f lo) refl (some_those f (suc lo) n x)
         }
     some_step false z ih =
         let w : suc lo + n ≡ lo + suc n = omega arith in
-        subst (λ (hi : ℕ). First f lo hi x) w (later f lo (suc lo + n) x z (ih (sym (ap first_of (those_miss f lo n z)) ∙ e)))
+        subst (λ (hi : ℕ). First f lo hi x) w (later f lo (suc lo + n) x z (ih (sym (ap (λ (l : List ℕ). slice_get l 0) (those_miss f lo n z)) ∙ e)))
 
-pub some_between : (f : ℕ → Bool) (lo hi x : ℕ) → first_of (between f lo hi) ≡ Some x → First f lo hi x
+pub some_between : (f : ℕ → Bool) (lo hi x : ℕ) → slice_get (between f lo hi) 0 ≡ Some x → First f lo hi x
 some_between f lo hi x e =
     ⊎_elim {C = First f lo hi x}
     (λ l.
     let w : lo + (hi - lo) ≡ hi = omega arith in
     subst (λ (y : ℕ). First f lo y x) w (some_those f lo (hi - lo) x e))
-    (λ l. absurd (some_none x (sym e ∙ ap first_of (between_end f lo hi l))))
+    (λ l. absurd (some_none x (sym e ∙ ap (λ (l : List ℕ). slice_get l 0) (between_end f lo hi l))))
     (cases_lt lo hi)
 
 -- ---- runs: all numbers pass

@@ -1,13 +1,13 @@
 -- Bits of words: the lowest that is set, and where the words' bits lie among the ids.
-use Rattle.std.proofs.Common.{◌≡◌, ℕ, zero, suc, ◌+◌, ◌-◌, ◌*◌, ◌/◌, ◌%◌, ◌^◌, ◌<◌, ◌≤◌, false, eqb, List, [], ◌∷◌, length, get_or, take, Some, None, sym, refl, ap, ◌∙◌, subst, ⊎_elim, pow-suc, one-add, arith}
+use Rattle.std.proofs.Common.{slice_get, ◌≡◌, ℕ, zero, suc, ◌+◌, ◌-◌, ◌*◌, ◌/◌, ◌%◌, ◌^◌, ◌<◌, ◌≤◌, false, eqb, List, length, get_or, Some, None, sym, refl, ap, ◌∙◌, subst, ⊎_elim, pow-suc, one-add, arith}
 use native.Mathlib.Nat.{div-eq_of_lt}
-use lib.Count.{count_trailing_zeros, under, ones}
+use lib.Count.{count_trailing_zeros, under}
 use Rattle.std.proofs.lemmas.Nat.{pow_pos, shr-shr, div-mul-add, mod-mul-add, pow_below}
 use Rattle.std.proofs.lemmas.List.{get_or_past}
 use Rattle.std.proofs.lemmas.Bool.{cases_lt}
 use Rattle.docset.specs.Bits.{bit_set}
 use Rattle.leaves.specs.Ranges.{between}
-use Rattle.leaves.specs.Bits.{bit_of, bits_from, first_of, ones_in}
+use Rattle.leaves.specs.Bits.{bit_of, bits_from}
 use Rattle.leaves.proofs.Ranges.{first_is, none_is, none_between, some_between, between_skip, between_end}
 
 -- ---- the lowest bit of a word
@@ -58,7 +58,7 @@ low_shift w r t h e =
         (cases_lt 64 (r + t))
 
 -- the search for the lowest bit of a word from r on
-pub word_none : (w r : ℕ) → w < 2 ^ 64 → w / 2 ^ r ≡ 0 → first_of (between (bit_of w) r 64) ≡ None
+pub word_none : (w r : ℕ) → w < 2 ^ 64 → w / 2 ^ r ≡ 0 → slice_get (between (bit_of w) r 64) 0 ≡ None
 word_none w r h e =
     none_is (bit_of w) r 64
     (λ k a b.
@@ -69,7 +69,7 @@ word_none w r h e =
 
 pub word_some :
     (w r : ℕ) → w < 2 ^ 64 → 0 < w / 2 ^ r → w / 2 ^ r < 2 ^ 64 →
-    first_of (between (bit_of w) r 64) ≡ Some (r + count_trailing_zeros 64 (w / 2 ^ r))
+    slice_get (between (bit_of w) r 64) 0 ≡ Some (r + count_trailing_zeros 64 (w / 2 ^ r))
 word_some w r h p q =
     let t : ℕ = count_trailing_zeros 64 (w / 2 ^ r) in
     let l = lowest 64 (w / 2 ^ r) p q in
@@ -109,7 +109,7 @@ split_id p k h = omega arith
 
 -- a word without a bit from r on is passed whole
 pub word_passed :
-    (ws : List ℕ) (p r : ℕ) → r < 64 → first_of (between (bit_of (get_or ws p 0)) r 64) ≡ None →
+    (ws : List ℕ) (p r : ℕ) → r < 64 → slice_get (between (bit_of (get_or ws p 0)) r 64) 0 ≡ None →
     bits_from ws (p * 64 + r) ≡ bits_from ws (suc p * 64)
 word_passed ws p r h e =
     between_skip (bit_set ws) (p * 64 + r) (suc p * 64) (64 * length ws) (omega arith)
@@ -119,8 +119,8 @@ word_passed ws p r h e =
 
 -- a word with a bit from r on has the first id
 pub word_found :
-    (ws : List ℕ) (p r x : ℕ) → p < length ws → r < 64 → first_of (between (bit_of (get_or ws p 0)) r 64) ≡ Some x →
-    first_of (bits_from ws (p * 64 + r)) ≡ Some (p * 64 + x)
+    (ws : List ℕ) (p r x : ℕ) → p < length ws → r < 64 → slice_get (between (bit_of (get_or ws p 0)) r 64) 0 ≡ Some x →
+    slice_get (bits_from ws (p * 64 + r)) 0 ≡ Some (p * 64 + x)
 word_found ws p r x l h e =
     let f = some_between (bit_of (get_or ws p 0)) r 64 x e in
     first_is (bit_set ws) (p * 64 + r) (64 * length ws) (p * 64 + x)
@@ -133,12 +133,5 @@ word_found ws p r x l h e =
           f.before (k - p * 64) (omega arith) (omega arith);
     })
 
-pub words_end : (ws : List ℕ) (p r : ℕ) → length ws ≤ p → first_of (bits_from ws (p * 64 + r)) ≡ None
-words_end ws p r h = ap first_of (between_end (bit_set ws) (p * 64 + r) (64 * length ws) (omega arith))
-
--- ---- the number of ones
-
-pub ones_more : (ws : List ℕ) (i : ℕ) → i < length ws → ones_in (take (suc i) ws) ≡ ones_in (take i ws) + ones (get_or ws i 0)
-ones_more [] i h = absurd (omega arith)
-ones_more (w ∷ ws) zero h = omega arith
-ones_more (w ∷ ws) (suc i) h = omega (arith, ones_more ws i (omega arith))
+pub words_end : (ws : List ℕ) (p r : ℕ) → length ws ≤ p → slice_get (bits_from ws (p * 64 + r)) 0 ≡ None
+words_end ws p r h = ap (λ (l : List ℕ). slice_get l 0) (between_end (bit_set ws) (p * 64 + r) (64 * length ws) (omega arith))

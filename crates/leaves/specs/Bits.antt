@@ -1,5 +1,6 @@
 -- Leaves over words of bits: what is refused, and what is listed.
-use Rattle.std.specs.Prelude.{ℕ, ◌+◌, ◌*◌, ◌/◌, ◌%◌, ◌^◌, Bool, true, cond, List, [], ◌∷◌, length, Some, None, Option, ◌==◌, count_ones, nat_lt}
+use Rattle.std.specs.Prelude.{ℕ, ◌+◌, ◌*◌, ◌/◌, ◌%◌, ◌^◌, Bool, true, cond, List, length, Some, Option, ◌==◌, count_ones, nat_lt, slice_get, sum_by}
+use Rattle.std.specs.Option.{option_map}
 use Rattle.docset.specs.declared.refusal.Refusal.{Refusal}
 use Rattle.docset.specs.declared.refusal.Refusal.TheVariants.{SegmentTooLarge, WrongWordCount, BitPastEnd}
 use Rattle.docset.specs.Meaning.{TERM}
@@ -14,17 +15,12 @@ bit_of w k = w / 2 ^ k % 2 == 1
 abbrev pub bits_from : List ℕ → ℕ → List ℕ
 bits_from ws lo = between (bit_set ws) lo (64 * length ws)
 
-abbrev pub first_of : List ℕ → Option ℕ
-first_of [] = None
-first_of (x ∷ xs) = Some x
-
 -- how many words hold a bit for each document below max
 abbrev pub words_for : ℕ → ℕ
 words_for max = (max + 63) / 64
 
 abbrev pub past_end : List ℕ → Option Refusal
-past_end [] = None
-past_end (x ∷ xs) = Some BitPastEnd
+past_end xs = option_map (λ _. BitPastEnd) (slice_get xs 0)
 
 -- why words are refused for a segment of max documents, if they are: its size, then their number, then a bit at or past max
 abbrev pub bits_refusal : List ℕ → ℕ → Option Refusal
@@ -33,8 +29,7 @@ bits_refusal ws max =
 
 -- the number of ones in all words
 abbrev pub ones_in : List ℕ → ℕ
-ones_in [] = 0
-ones_in (w ∷ ws) = count_ones w + ones_in ws
+ones_in = sum_by count_ones
 
 -- a leaf stands on a set bit, or at TERM
 abbrev pub stands : List ℕ → ℕ → Bool

@@ -1,13 +1,12 @@
 -- Leaves over a list of ids: what is refused, and what is listed.
-use Rattle.std.specs.Prelude.{ℕ, suc, ◌<◌, cond, List, [], ◌∷◌, drop, Some, None, Option, nat_lt, slice_index}
+use Rattle.std.specs.Prelude.{ℕ, suc, ◌<◌, cond, List, [], ◌∷◌, drop, Some, None, Option, nat_le, nat_lt, slice_index, position}
 use Rattle.docset.specs.declared.refusal.Refusal.{Refusal}
 use Rattle.docset.specs.declared.refusal.Refusal.TheVariants.{NotRising, TooLarge}
 use Rattle.docset.specs.Meaning.{Meaning, TERM, calm, ones}
 
--- the first place that holds TERM or more; the list's first place is called i
-abbrev pub first_large : ℕ → List ℕ → Option ℕ
-first_large i [] = None
-first_large i (x ∷ xs) = cond (nat_lt x TERM) (first_large (suc i) xs) (Some i)
+-- the first place that holds TERM or more
+abbrev pub first_large : List ℕ → Option ℕ
+first_large = position (nat_le TERM)
 
 -- the first place whose number is not above the one before it; the list's first place is called i, and before it stands p
 abbrev pub first_flat_after : ℕ → ℕ → List ℕ → Option ℕ
@@ -26,7 +25,7 @@ refused_by None None = None
 
 -- why a list of ids is refused, if it is
 abbrev pub ids_refusal : List ℕ → Option Refusal
-ids_refusal xs = refused_by (first_large 0 xs) (first_flat xs)
+ids_refusal xs = refused_by (first_large xs) (first_flat xs)
 
 -- what a builder keeps: all, or none where it refuses
 abbrev pub kept_ids : Option Refusal → List ℕ → List ℕ

@@ -1,13 +1,11 @@
-ghost use Rattle.std.specs.Prelude.{◌≡◌, ◌+◌, ◌≤◌, cond, ◌++◌, drop, if◌then◌else◌, Some, None, nat_lt};
+ghost use Rattle.std.specs.Prelude.{◌≡◌, ◌+◌, ◌≤◌, cond, ◌++◌, drop, if◌then◌else◌, Some, None, nat_lt, length};
 ghost use Rattle.docset.specs.Meaning.{calm, ones};
 ghost use Rattle.docset.specs.declared.refusal.Refusal.TheVariants.{SegmentTooLarge};
 ghost use Rattle.leaves.specs.Ranges.{run};
 
-use docset::alive_bitset::AliveBitSet;
 use docset::docset::{COLLECT_BLOCK_BUFFER_LEN, DocSet, SeekDangerResult, TERMINATED};
 use docset::refusal::Refusal;
 use docset::scorer::Scorer;
-use docset::walk::{Leap, Walk, count_by_advance, probe_by_seek};
 
 // All documents of a segment, from `doc` on; it has ended when `doc` is `max_doc`.
 #[derive(Drop)]
@@ -35,44 +33,13 @@ impl AllScorer {
     }
 }
 
-// Writes the numbers from `first` on to the first `len` places.
-fn write_run(buffer: &mut [u32; 64], first: u32, len: u32)
-    requires { (len ≤ 64) × (first + len ≤ 2147483647) }
-    ensures { buffer.new ≡ run first (first + len) ++ drop len buffer.old }
+// Writes the numbers from `first` on.
+fn write_run(buffer: &mut [u32], first: u32)
+    requires { first + length buffer.old ≤ 2147483647 }
+    ensures { buffer.new ≡ run first (first + length buffer.old) }
 {
-    for i in 0..len {
-        buffer[i as usize] = first + i;
-    }
-}
-
-impl Walk for AllScorer {
-    ghost walked = { λ s. calm (ones (run s.doc s.max_doc)) };
-
-    fn here(&self) -> u32 {
-        if self.doc < self.max_doc {
-            self.doc
-        } else {
-            TERMINATED
-        }
-    }
-
-    fn step(&mut self) -> u32 {
-        if self.doc < self.max_doc {
-            self.doc += 1;
-            self.here()
-        } else {
-            TERMINATED
-        }
-    }
-}
-
-impl Leap for AllScorer {
-    fn leap(&mut self, target: u32) -> u32 {
-        if target <= self.doc {
-            return self.here();
-        }
-        self.doc = target.min(self.max_doc);
-        self.here()
+    for (place, id) in buffer.iter_mut().enumerate() {
+        *id = first + place as u32;
     }
 }
 
@@ -84,31 +51,39 @@ impl DocSet for AllScorer {
     ghost price = { λ s. s.max_doc };
 
     fn doc(&self) -> u32 {
-        self.here()
+        if self.doc < self.max_doc {
+            self.doc
+        } else {
+            TERMINATED
+        }
     }
 
     fn advance(&mut self) -> u32 {
-        self.step()
+        if self.doc < self.max_doc {
+            self.doc += 1;
+        }
+        self.doc()
     }
 
     fn seek(&mut self, target: u32) -> u32 {
-        self.leap(target)
+        self.doc = target.clamp(self.doc, self.max_doc);
+        self.doc()
     }
 
     fn seek_danger(&mut self, target: u32) -> SeekDangerResult {
-        probe_by_seek(self, target)
+        if target >= TERMINATED {
+            return SeekDangerResult::SeekLowerBound(TERMINATED);
+        }
+        let doc = self.seek(target);
+        SeekDangerResult::at(doc, target)
     }
 
     fn fill_buffer(&mut self, buffer: &mut [u32; 64]) -> usize {
         let first = self.doc;
         let len = (self.max_doc - first).min(COLLECT_BLOCK_BUFFER_LEN as u32);
-        write_run(buffer, first, len);
+        write_run(&mut buffer[..len as usize], first);
         self.doc = first + len;
         len as usize
-    }
-
-    fn count(self, alive_bitset: &AliveBitSet) -> u32 {
-        count_by_advance(self, alive_bitset)
     }
 
     fn count_including_deleted(self) -> u32 {

@@ -1,18 +1,14 @@
-ghost use Rattle.std.specs.Prelude.{◌≡◌, ℕ, ◌<◌, ◌≤◌, true, false, length};
+ghost use Rattle.std.specs.Prelude.{◌≡◌, ℕ, ◌<◌, ◌≤◌, true, false, length, slice_get};
 ghost use Rattle.std.specs.Option.{unwrap_or};
 ghost use Rattle.docset.specs.Bits.{bit_set};
 ghost use Rattle.docset.specs.Meaning.{calm, ones};
 ghost use Rattle.leaves.specs.Lists.{kept_ids};
 ghost use Rattle.leaves.specs.Ranges.{between};
-ghost use Rattle.leaves.specs.Bits.{bit_of, bits_from, first_of, bits_refusal, ones_in, stands};
+ghost use Rattle.leaves.specs.Bits.{bit_of, bits_from, bits_refusal, ones_in, stands};
 
-use docset::alive_bitset::AliveBitSet;
 use docset::docset::{DocSet, SeekDangerResult, TERMINATED};
 use docset::refusal::Refusal;
 use docset::scorer::Scorer;
-use docset::walk::{
-    Leap, Walk, count_all_by_advance, count_by_advance, fill_by_advance, probe_by_seek,
-};
 
 // The ids whose bit is set in the caller's words, which are not copied, from `doc` on.
 #[derive(Drop)]
@@ -32,7 +28,7 @@ pub struct BitSetDocSet<'a> {
 // The lowest bit of the word, from a bit on, that is set.
 fn lowest_bit(word: u64, from: u32) -> Option<u32>
     requires { from < 64 }
-    ensures { result ≡ first_of (between (bit_of word) from 64) }
+    ensures { result ≡ slice_get (between (bit_of word) from 64) 0 }
 {
     let rest = word >> from;
     if rest == 0 {
@@ -44,15 +40,14 @@ fn lowest_bit(word: u64, from: u32) -> Option<u32>
 // The first id from `from` on whose bit is set.
 fn first_bit(words: &[u64], from: u32) -> Option<u32>
     requires { length words.now ≤ 33554432 }
-    ensures { result ≡ first_of (bits_from words.now from) }
+    ensures { result ≡ slice_get (bits_from words.now from) 0 }
 {
-    let mut place = (from / 64) as usize;
     let mut bit = from % 64;
-    while place < words.len() {
+    // By the places, as `skip` would go over the words before the first one by one.
+    for place in (from / 64) as usize..words.len() {
         if let Some(lowest) = lowest_bit(words[place], bit) {
             return Some((place * 64) as u32 + lowest);
         }
-        place += 1;
         bit = 0;
     }
     None
@@ -61,7 +56,7 @@ fn first_bit(words: &[u64], from: u32) -> Option<u32>
 // The same, with TERMINATED for none.
 fn doc_from(words: &[u64], from: u32) -> u32
     requires { length words.now ≤ 33554432 }
-    ensures { result ≡ unwrap_or (first_of (bits_from words.now from)) 2147483647 }
+    ensures { result ≡ unwrap_or (slice_get (bits_from words.now from) 0) 2147483647 }
 {
     first_bit(words, from).unwrap_or(TERMINATED)
 }
@@ -71,11 +66,7 @@ fn count_ones(words: &[u64]) -> u32
     requires { length words.now ≤ 33554432 }
     ensures { result ≡ ones_in words.now }
 {
-    let mut count: u32 = 0;
-    for place in 0..words.len() {
-        count += words[place].count_ones();
-    }
-    count
+    words.iter().map(|word| word.count_ones()).sum()
 }
 
 // Why words are refused for a segment of `max_value` documents, if they are.
@@ -88,10 +79,7 @@ pub fn check_bits(words: &[u64], max_value: u32) -> Option<Refusal>
     if words.len() != max_value.div_ceil(64) as usize {
         return Some(Refusal::WrongWordCount);
     }
-    match first_bit(words, max_value) {
-        Some(_) => Some(Refusal::BitPastEnd),
-        None => None,
-    }
+    first_bit(words, max_value).map(|_| Refusal::BitPastEnd)
 }
 
 impl<'a> BitSetDocSet<'a> {
@@ -130,24 +118,25 @@ impl<'a> BitSetDocSet<'a> {
     }
 }
 
-impl<'a> Walk for BitSetDocSet<'a> {
-    ghost walked = { λ s. calm (ones (bits_from s.docs.now s.doc)) };
+impl<'a> DocSet for BitSetDocSet<'a> {
+    ghost meaning = { λ s. calm (ones (bits_from s.docs.now s.doc)) };
 
-    fn here(&self) -> u32 {
+    ghost hint = { λ s. ones_in s.docs.now };
+
+    ghost price = { λ s. ones_in s.docs.now };
+
+    fn doc(&self) -> u32 {
         self.doc
     }
 
-    fn step(&mut self) -> u32 {
-        if self.doc == TERMINATED {
-            return TERMINATED;
+    fn advance(&mut self) -> u32 {
+        if self.doc != TERMINATED {
+            self.doc = doc_from(self.docs, self.doc + 1);
         }
-        self.doc = doc_from(self.docs, self.doc + 1);
         self.doc
     }
-}
 
-impl<'a> Leap for BitSetDocSet<'a> {
-    fn leap(&mut self, target: u32) -> u32 {
+    fn seek(&mut self, target: u32) -> u32 {
         if target <= self.doc {
             return self.doc;
         }
@@ -158,41 +147,13 @@ impl<'a> Leap for BitSetDocSet<'a> {
         self.doc = doc_from(self.docs, target);
         self.doc
     }
-}
-
-impl<'a> DocSet for BitSetDocSet<'a> {
-    ghost meaning = { λ s. calm (ones (bits_from s.docs.now s.doc)) };
-
-    ghost hint = { λ s. ones_in s.docs.now };
-
-    ghost price = { λ s. ones_in s.docs.now };
-
-    fn doc(&self) -> u32 {
-        self.here()
-    }
-
-    fn advance(&mut self) -> u32 {
-        self.step()
-    }
-
-    fn seek(&mut self, target: u32) -> u32 {
-        self.leap(target)
-    }
 
     fn seek_danger(&mut self, target: u32) -> SeekDangerResult {
-        probe_by_seek(self, target)
-    }
-
-    fn fill_buffer(&mut self, buffer: &mut [u32; 64]) -> usize {
-        fill_by_advance(self, buffer)
-    }
-
-    fn count(self, alive_bitset: &AliveBitSet) -> u32 {
-        count_by_advance(self, alive_bitset)
-    }
-
-    fn count_including_deleted(self) -> u32 {
-        count_all_by_advance(self)
+        if target >= TERMINATED {
+            return SeekDangerResult::SeekLowerBound(TERMINATED);
+        }
+        let doc = self.seek(target);
+        SeekDangerResult::at(doc, target)
     }
 
     fn size_hint(&self) -> u32 {

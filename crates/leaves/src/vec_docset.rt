@@ -1,11 +1,9 @@
 ghost use Rattle.std.specs.Prelude.{◌≡◌, ◌≤◌, length};
 ghost use Rattle.leaves.specs.Lists.{first_large, first_flat, ids_refusal, kept_ids, listed, Small, Rises};
 
-use docset::alive_bitset::AliveBitSet;
 use docset::docset::{DocSet, SeekDangerResult, TERMINATED};
 use docset::refusal::Refusal;
 use docset::scorer::Scorer;
-use docset::walk::{Leap, Walk, count_by_advance, fill_by_advance, probe_by_seek, seek_by_advance};
 
 // The caller's ids, which are not copied, and how far they have been read.
 #[derive(Drop)]
@@ -18,25 +16,19 @@ pub struct VecDocSet<'a> {
 }
 
 // The place of the first id that is too large.
-#[tactic(auto, using(crate::proofs::Checks::large_found))]
 fn find_large(doc_ids: &[u32]) -> Option<usize>
-    ensures { result ≡ first_large 0 doc_ids.now }
+    ensures { result ≡ first_large doc_ids.now }
 {
-    for (place, id) in doc_ids.iter().enumerate() {
-        if *id >= TERMINATED {
-            return Some(place);
-        }
-    }
-    None
+    doc_ids.iter().position(|id| *id >= TERMINATED)
 }
 
 // The place of the first id that is not above the one before it.
 fn find_flat(doc_ids: &[u32]) -> Option<usize>
     ensures { result ≡ first_flat doc_ids.now }
 {
-    for place in 1..doc_ids.len() {
-        if doc_ids[place] <= doc_ids[place - 1] {
-            return Some(place);
+    for (place, pair) in doc_ids.windows(2).enumerate() {
+        if pair[1] <= pair[0] {
+            return Some(place + 1);
         }
     }
     None
@@ -56,7 +48,8 @@ pub fn check_ids(doc_ids: &[u32]) -> Option<Refusal>
 }
 
 impl<'a> VecDocSet<'a> {
-    // A leaf over these ids, from the first on, or an empty leaf beside the reason why.
+    // A leaf over these ids, from the first on, or an empty leaf beside the reason why. It is no `Result`,
+    // here and in the other builders: a set that is refused can still be used, as an empty one.
     pub fn new(doc_ids: &'a [u32]) -> (Option<Refusal>, VecDocSet<'a>)
         ensures answer { result.0 ≡ ids_refusal doc_ids.now }
         ensures over { result.1.doc_ids.now ≡ kept_ids result.0 doc_ids.now }
@@ -75,33 +68,6 @@ impl<'a> VecDocSet<'a> {
     }
 }
 
-impl<'a> Walk for VecDocSet<'a> {
-    ghost walked = { λ s. listed s.doc_ids.now s.cursor };
-
-    fn here(&self) -> u32 {
-        if self.cursor < self.doc_ids.len() {
-            self.doc_ids[self.cursor]
-        } else {
-            TERMINATED
-        }
-    }
-
-    fn step(&mut self) -> u32 {
-        if self.cursor < self.doc_ids.len() {
-            self.cursor += 1;
-            self.here()
-        } else {
-            TERMINATED
-        }
-    }
-}
-
-impl<'a> Leap for VecDocSet<'a> {
-    fn leap(&mut self, target: u32) -> u32 {
-        seek_by_advance(self, target)
-    }
-}
-
 impl<'a> DocSet for VecDocSet<'a> {
     ghost meaning = { λ s. listed s.doc_ids.now s.cursor };
 
@@ -110,27 +76,22 @@ impl<'a> DocSet for VecDocSet<'a> {
     ghost price = { λ s. length s.doc_ids.now };
 
     fn doc(&self) -> u32 {
-        self.here()
+        self.doc_ids.get(self.cursor).copied().unwrap_or(TERMINATED)
     }
 
     fn advance(&mut self) -> u32 {
-        self.step()
-    }
-
-    fn seek(&mut self, target: u32) -> u32 {
-        self.leap(target)
+        if self.cursor < self.doc_ids.len() {
+            self.cursor += 1;
+        }
+        self.doc()
     }
 
     fn seek_danger(&mut self, target: u32) -> SeekDangerResult {
-        probe_by_seek(self, target)
-    }
-
-    fn fill_buffer(&mut self, buffer: &mut [u32; 64]) -> usize {
-        fill_by_advance(self, buffer)
-    }
-
-    fn count(self, alive_bitset: &AliveBitSet) -> u32 {
-        count_by_advance(self, alive_bitset)
+        if target >= TERMINATED {
+            return SeekDangerResult::SeekLowerBound(TERMINATED);
+        }
+        let doc = self.seek(target);
+        SeekDangerResult::at(doc, target)
     }
 
     fn count_including_deleted(self) -> u32 {

@@ -1,15 +1,8 @@
 use Rattle.std.proofs.Common.{◌≡◌, sym, ap, ◌∙◌}
-use lib.Ieee.{nan}
 use Rattle.std.proofs.lemmas.List.{take_all}
-use Rattle.std.proofs.lemmas.List.Sums.{fold_more}
 use Rattle.combiner.specs.Scores.{start, combined}
 use Rattle.combiner.proofs.Combined.{folded_alike}
 use Rattle.combiner.proofs.score_combiner.combine.Goals as goal
-
-pub loop-score-preserved : goal.loop-score-preserved
-loop-score-preserved g c =
-    let more = fold_more (g.C.ScoreCombiner.taken c.args.c.now) start c.args.scores.now c.loop-score.score-index nan c.loop-score-test.true in
-    cc
 
 pub returns : goal.returns
 returns g c =

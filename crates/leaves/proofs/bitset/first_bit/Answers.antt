@@ -1,5 +1,5 @@
-use Rattle.std.proofs.Common.{◌≡◌, suc, ◌+◌, ◌*◌, get_or, sym, ap, ◌∙◌, arith}
-use Rattle.leaves.specs.Bits.{bits_from, first_of, bit_of}
+use Rattle.std.proofs.Common.{slice_get, ℕ, List, ◌≡◌, suc, ◌+◌, ◌*◌, get_or, sym, ap, ◌∙◌, arith}
+use Rattle.leaves.specs.Bits.{bits_from, bit_of}
 use Rattle.leaves.proofs.Ranges.{some_between}
 use Rattle.leaves.proofs.Words.{word_passed, word_found, words_end}
 use Rattle.leaves.proofs.bitset.first_bit.Goals as goal
@@ -12,7 +12,7 @@ overflow_add-result c =
 pub returns-in-Some : goal.returns-in-Some
 returns-in-Some c =
     sym
-    (ap first_of c.loop-place.invariant.1 ∙
+    (ap (λ (l : List ℕ). slice_get l 0) c.loop-place.invariant.1 ∙
     word_found c.args.words.now c.loop-place.place c.loop-place.bit c.in-Some.lowest c.loop-place-test.true c.loop-place.invariant.0 (sym c.in-Some.ensures))
 
 pub loop-place-preserved : goal.loop-place-preserved
@@ -26,4 +26,4 @@ loop-place-preserved c =
 
 pub returns : goal.returns
 returns c =
-    sym (ap first_of c.loop-place.invariant.1 ∙ words_end c.args.words.now c.loop-place.place c.loop-place.bit c.loop-place-test.false)
+    sym (ap (λ (l : List ℕ). slice_get l 0) c.loop-place.invariant.1 ∙ words_end c.args.words.now c.loop-place.place c.loop-place.bit c.loop-place-test.false)

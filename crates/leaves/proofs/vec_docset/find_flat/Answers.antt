@@ -1,21 +1,46 @@
-use Rattle.std.proofs.Common.{◌≡◌, ◌+◌, ◌-◌, sym, ◌∙◌, add-one, arith}
-use Rattle.leaves.proofs.Checks.{flat_start, flat_found, flat_more, flat_none}
+use Rattle.std.proofs.Common.{ℕ, ◌+◌, drop, length, Some, sym, ap, ◌∙◌, arith, length-drop}
+use Rattle.std.proofs.lemmas.List.{drop-drop}
+use Rattle.std.specs.Slice.Iter.{windows_rest, windows_size}
+use Rattle.leaves.proofs.Checks.{Neighbours, neighbours, flat_from, flat_start, flat_found, flat_more, flat_none}
 use Rattle.leaves.proofs.vec_docset.find_flat.Goals as goal
 
 pub loop-place-init : goal.loop-place-init
-loop-place-init c = flat_start c.args.doc_ids.now
+loop-place-init c =
+    let xs = c.args.doc_ids.now in
+    let s = ap (λ x. x.iter) c.into_iter-place-iterator.ensures.into_iter_gives ∙ c.enumerate-place-items.ensures.source in
+    let n = ap (λ x. x.count) c.into_iter-place-iterator.ensures.into_iter_gives ∙ c.enumerate-place-items.ensures.count in
+    record {
+      size = ap windows_size s ∙ c.windows.ensures.size;
+      rest = ap windows_rest s ∙ c.windows.ensures.rest ∙ sym (ap (λ (k : ℕ). drop k xs) n);
+      same = flat_start xs ∙ sym (ap (flat_from xs) n);
+    }
+
+pub returns-then-pair : goal.returns-then-pair
+returns-then-pair c =
+    let xs = c.args.doc_ids.now in
+    let i : ℕ = c.loop-place.place-iterator.count in
+    let v = c.loop-place.invariant in
+    let e = c.in-Some.ensures.steps in
+    let n : Neighbours xs c.in-Some.pair.now i = neighbours _ _ _ _ _ v.size v.rest e.0.1.0 e.0.1.1 in
+    ap (λ (k : ℕ). Some (k + 1)) e.1 ∙ sym (v.same ∙ flat_found xs i n.inside (omega arith))
 
 pub loop-place-preserved : goal.loop-place-preserved
 loop-place-preserved c =
-    let i = c.loop-place.place in
-    let e : i + 1 - 1 ≡ i = omega arith in
-    rw (e, add-one)
-    (c.loop-place.invariant ∙ flat_more c.args.doc_ids.now (i - 1) i c.loop-place-test.true c.if-doc_ids-place.false)
-
-pub returns-then-doc_ids-place : goal.returns-then-doc_ids-place
-returns-then-doc_ids-place c =
-    let i = c.loop-place.place in
-    sym (c.loop-place.invariant ∙ flat_found c.args.doc_ids.now (i - 1) i c.loop-place-test.true c.if-doc_ids-place.true)
+    let xs = c.args.doc_ids.now in
+    let i : ℕ = c.loop-place.place-iterator.count in
+    let v = c.loop-place.invariant in
+    let e = c.in-Some.ensures.steps in
+    let n : Neighbours xs c.in-Some.pair.now i = neighbours _ _ _ _ _ v.size v.rest e.0.1.0 e.0.1.1 in
+    record {
+      size = e.0.0 ∙ v.size;
+      rest = e.0.1.2 ∙ ap (drop 1) v.rest ∙ drop-drop 1 i xs ∙ sym (ap (λ (k : ℕ). drop k xs) e.2);
+      same = v.same ∙ flat_more xs i n.inside (omega arith) ∙ sym (ap (flat_from xs) e.2);
+    }
 
 pub returns : goal.returns
-returns c = sym (c.loop-place.invariant ∙ flat_none c.args.doc_ids.now _ c.loop-place.place c.loop-place-test.false)
+returns c =
+    let xs = c.args.doc_ids.now in
+    let i : ℕ = c.loop-place.place-iterator.count in
+    let v = c.loop-place.invariant in
+    let e = c.in-None.ensures.steps in
+    sym (v.same ∙ flat_none xs i (omega (arith, e.0.1.0, v.size, ap length v.rest, length-drop i xs)))
