@@ -49,16 +49,6 @@ pub slots_one : (a : ℕ → Cell) (k n : ℕ) (t : Tally) → a k ≡ some t �
 unfolding slots
 slots_one a k n t e = rw e
 
--- the first cell that holds something comes first
-pub slots_head : (a : ℕ → Cell) (lo k hi : ℕ) (t : Tally) → lo ≤ k → k < hi
-    → ((d : ℕ) → lo ≤ d → d < k → a d ≡ none) → a k ≡ some t
-    → slots a lo (hi - lo) ≡ k ∷ slots a (suc k) (hi - suc k)
-slots_head a lo k hi t le lt h e =
-    let p : hi - lo ≡ (k - lo) + suc (hi - suc k) = omega arith in
-    let q : lo + (k - lo) ≡ k = omega arith in
-    ap (slots a lo) p ∙ slots_skip a lo (k - lo) (suc (hi - suc k)) (λ d ge l. h d ge (omega arith)) ∙
-    ap (λ (x : ℕ). slots a x (suc (hi - suc k))) q ∙ slots_one a k (hi - suc k) t e
-
 -- ---- how many they are
 
 pub count_same : (a b : ℕ → Cell) (lo n : ℕ) → ((d : ℕ) → lo ≤ d → d < lo + n → b d ≡ a d) → count b lo n ≡ count a lo n

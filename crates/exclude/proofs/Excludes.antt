@@ -1,12 +1,12 @@
 -- Lists without the ids of other lists, and sets that leave them out.
 use Rattle.std.proofs.Common.{◌≡◌, ℕ, suc, ◌<◌, ◌≤◌, Bool, true, false, cond, ◌&&◌, eqb, ◌⊎◌, List, [], ◌∷◌, length, sym, refl, ap, ◌∙◌, subst, inl, inr, ⊎_elim, arith}
 use lib.Ieee.{Float}
-use Rattle.std.proofs.lemmas.Bool.{cond-true, cond-false, cases_lt, cases_Bool, eq-eqb, ne_eqb, and_parts, and_from, not-true, not_from_false}
+use Rattle.std.proofs.lemmas.Bool.{cond-true, cond-false, cases_lt, cases_Bool, and_parts, and_from, not-true, not_from_false}
 use Rattle.docset.specs.Meaning.{Meaning, Mark, is_steady, lost, Pair, TERM, Steady, Known, calm, ids, first_id, first_score, rest, from, Rising, rises_from}
 use Rattle.docset.specs.Calls.{Told, Moved, Sought, Probed, ProbedSteady, Scored}
 use Rattle.docset.specs.declared.docset.SeekDangerResult.{SeekDangerResult}
 use Rattle.docset.specs.declared.docset.SeekDangerResult.TheVariants.{Found, SeekLowerBound}
-use Rattle.docset.proofs.Lists.{steady_known, steady_is, is_then_steady, ended, lower, rising_is, is_then_rising, rising_rest, rising_from, from_lt, from_ge, from_shorter}
+use Rattle.docset.proofs.Lists.{steady_known, steady_is, is_then_steady, lower, rising_is, is_then_rising, rising_rest, rising_from, from_lt, from_ge, from_shorter}
 use Rattle.docset.proofs.Probes.{probe_past, probe_sought}
 use Rattle.bank.specs.Holding.{held, AllKnown}
 use Rattle.bank.proofs.Probing.{held_later, known_later}
@@ -159,14 +159,6 @@ skipped_kept m n ms ns os d c p a =
             list = λ y. asked_same n ns os c false a (p.ready y) ∙ p.list y;
           };
       clears = λ y. clear_held os n.pairs (asked_held n ns os c false a (p.ready y));
-    }
-
-pub skipped_all :
-    (m n : Meaning) (ms ns : List Meaning) (d c : ℕ) → Passed m n ms ns d c → c ≡ TERM → Skipped m n ms ns d c
-skipped_all m n ms ns d c p e =
-    record {
-      passed = p;
-      clears = λ y. ap (clear ns) (ended 0 n.pairs (p.ready y).rises (sym (p.ready y).tells ∙ e));
     }
 
 -- ---- the exclusion as a set
@@ -355,10 +347,6 @@ sought_over t m n o ms os c r v h =
       tells = λ s. let f = steady_fit m ms s in lands_tells o os r (from t W) (L f) ∙ ap first_id (whole f);
     }
 
--- a target past the first id
-pub past : {X : Type 0} (t : ℕ) (m : Meaning) (d : ℕ) → Told m d → d < t → Steady m → t ≤ first_id m.pairs → X
-past t m d h k s e = absurd (omega (arith, h.tells s))
-
 -- an exclusion is never astray
 probed_over :
     (t : ℕ) (m : Meaning) (ms : List Meaning) (n : Meaning) (r : SeekDangerResult) → ProbedSteady t (excluded m ms) n r →
@@ -370,7 +358,7 @@ probed_over t m ms n r h =
       answers = λ k. h.answers (ap (λ (y : Meaning). y.mark) (excluded_fit m ms (known_fit m ms k)));
     }
 
-probed_by_seek :
+pub probed_by_seek :
     (t : ℕ) (m : Meaning) (ms : List Meaning) (n : Meaning) (d : ℕ) (r : SeekDangerResult) → t < TERM →
     Sought t (excluded m ms) n d → r ≡ cond (eqb d t) Found (SeekLowerBound d) → Probed t (excluded m ms) n r
 probed_by_seek t m ms n d r h v e =
@@ -380,27 +368,6 @@ pub probed_past :
     (t : ℕ) (m : Meaning) (ms : List Meaning) → TERM ≤ t → Probed t (excluded m ms) (excluded m ms) (SeekLowerBound TERM)
 probed_past t m ms h =
     probed_over t m ms (excluded m ms) (SeekLowerBound TERM) (probe_past t (excluded m ms) h (excluded_rises m ms))
-
-pub probed_found :
-    (t : ℕ) (m : Meaning) (ms : List Meaning) (n : Meaning) (d : ℕ) → t < TERM → Sought t (excluded m ms) n d → d ≡ t →
-    Probed t (excluded m ms) n Found
-probed_found t m ms n d h v e =
-    probed_by_seek t m ms n d Found h v (sym (cond-true (eqb d t) Found (SeekLowerBound d) (eq-eqb d t e)))
-
-pub probed_missed :
-    (t : ℕ) (m : Meaning) (ms : List Meaning) (n : Meaning) (d : ℕ) → t < TERM → Sought t (excluded m ms) n d →
-    (d ≡ t → ⊥) → Probed t (excluded m ms) n (SeekLowerBound d)
-probed_missed t m ms n d h v e =
-    probed_by_seek t m ms n d (SeekLowerBound d) h v
-    (sym (cond-false (eqb d t) Found (SeekLowerBound d) (ne_eqb d t e)))
-
-pub sought_stays : (t : ℕ) (m n : Meaning) (d : ℕ) → Sought t m n d → Steady m → Steady n
-sought_stays t m n d h s = ap (λ (x : Meaning). x.mark) (h.becomes s)
-
--- of a target that is an id
-pub at_id : {P X : Type 0} (t : ℕ) → t < TERM → (P → X) → P ⊎ (TERM ≤ t) → X
-at_id t h f (inl p) = f p
-at_id t h f (inr k) = absurd (omega arith)
 
 pub scored_over :
     (m n : Meaning) (ms : List Meaning) (x : Float) → Scored m n x → Scored (excluded m ms) (excluded n ms) x

@@ -5,10 +5,8 @@ ghost use Rattle.bank.specs.Holding.{AllKnown};
 ghost use Rattle.exclude.specs.Excluding.{Asked, Skipped, without, excluded};
 
 use bank::bank::Bank;
-use docset::alive_bitset::AliveBitSet;
 use docset::docset::{DocSet, SeekDangerResult, TERMINATED};
 use docset::scorer::Scorer;
-use docset::walk::{Walk, count_all_by_advance, count_by_advance, fill_by_advance};
 
 // What a document set can be told to leave out: the ids of one or more lists.
 //
@@ -39,10 +37,7 @@ impl<S: DocSet> ExclusionSet for OneSet<S> {
     ghost lists = { λ e. S.DocSet.meaning e.set ∷ [] };
 
     fn contains(&mut self, doc: u32) -> bool {
-        match self.set.seek_danger(doc) {
-            SeekDangerResult::Found => true,
-            SeekDangerResult::SeekLowerBound(_) => false,
-        }
+        self.set.seek_danger(doc) == SeekDangerResult::Found
     }
 }
 
@@ -70,13 +65,10 @@ impl<B: Bank> ExclusionSet for AnyOf<B> {
 
 // The set stands at the candidate: it goes on to the first document from there that is not excluded.
 fn next_kept<S: DocSet, E: ExclusionSet>(set: &mut S, exclusion: &mut E, mut candidate: u32) -> u32
-    requires { candidate ≤ 2147483647 }
+    requires { candidate ≤ TERM }
     ensures { Skipped (S.DocSet.meaning set.old) (S.DocSet.meaning set.new) (E.ExclusionSet.lists exclusion.old) (E.ExclusionSet.lists exclusion.new) candidate result }
 {
-    while candidate != TERMINATED {
-        if !exclusion.contains(candidate) {
-            return candidate;
-        }
+    while candidate != TERMINATED && exclusion.contains(candidate) {
         candidate = set.advance();
     }
     candidate
@@ -92,7 +84,7 @@ pub struct Exclude<S, E> {
 impl<S: DocSet, E: ExclusionSet> Exclude<S, E> {
     // It stands at the first document that is not excluded.
     pub fn new(mut underlying: S, mut exclusion: E) -> Exclude<S, E>
-        ensures { Steady (S.DocSet.meaning underlying) → AllKnown (E.ExclusionSet.lists exclusion) → excluded (S.DocSet.meaning result.underlying) (E.ExclusionSet.lists result.exclusion) ≡ calm (without (E.ExclusionSet.lists exclusion) (S.DocSet.meaning underlying).pairs) }
+        ensures { Steady (S.DocSet.meaning underlying) → AllKnown (E.ExclusionSet.lists exclusion) → ⟦<Exclude<S, E> as DocSet>⟧.meaning result ≡ calm (without (E.ExclusionSet.lists exclusion) (S.DocSet.meaning underlying).pairs) }
     {
         let doc = underlying.doc();
         next_kept(&mut underlying, &mut exclusion, doc);
@@ -100,19 +92,6 @@ impl<S: DocSet, E: ExclusionSet> Exclude<S, E> {
             underlying,
             exclusion,
         }
-    }
-}
-
-impl<S: DocSet, E: ExclusionSet> Walk for Exclude<S, E> {
-    ghost walked = { λ x. excluded (S.DocSet.meaning x.underlying) (E.ExclusionSet.lists x.exclusion) };
-
-    fn here(&self) -> u32 {
-        self.underlying.doc()
-    }
-
-    fn step(&mut self) -> u32 {
-        let candidate = self.underlying.advance();
-        next_kept(&mut self.underlying, &mut self.exclusion, candidate)
     }
 }
 
@@ -124,16 +103,17 @@ impl<S: DocSet, E: ExclusionSet> DocSet for Exclude<S, E> {
     ghost price = { λ x. S.DocSet.hint x.underlying };
 
     fn doc(&self) -> u32 {
-        self.here()
+        self.underlying.doc()
     }
 
     fn advance(&mut self) -> u32 {
-        self.step()
+        let candidate = self.underlying.advance();
+        next_kept(&mut self.underlying, &mut self.exclusion, candidate)
     }
 
     // A target at or below the current document asks the exclusion nothing: all is left as it was.
     fn seek(&mut self, target: u32) -> u32
-        ensures sought { Sought target (excluded (S.DocSet.meaning self.old.underlying) (E.ExclusionSet.lists self.old.exclusion)) (excluded (S.DocSet.meaning self.new.underlying) (E.ExclusionSet.lists self.new.exclusion)) result }
+        ensures sought { Sought target (⟦<Self as DocSet>⟧.meaning self.old) (⟦<Self as DocSet>⟧.meaning self.new) result }
         ensures untouched { Steady (S.DocSet.meaning self.old.underlying) → target ≤ first_id (S.DocSet.meaning self.old.underlying).pairs → self.new ≡ self.old }
     {
         let doc = self.underlying.doc();
@@ -147,30 +127,15 @@ impl<S: DocSet, E: ExclusionSet> DocSet for Exclude<S, E> {
     // A steady set stays steady. As with a seek, a target at or below the current document changes nothing,
     // nor does one that is no id.
     fn seek_danger(&mut self, target: u32) -> SeekDangerResult
-        ensures probed { Probed target (excluded (S.DocSet.meaning self.old.underlying) (E.ExclusionSet.lists self.old.exclusion)) (excluded (S.DocSet.meaning self.new.underlying) (E.ExclusionSet.lists self.new.exclusion)) result }
-        ensures stays { Steady (excluded (S.DocSet.meaning self.old.underlying) (E.ExclusionSet.lists self.old.exclusion)) → Steady (excluded (S.DocSet.meaning self.new.underlying) (E.ExclusionSet.lists self.new.exclusion)) }
+        ensures probed { Probed target (⟦<Self as DocSet>⟧.meaning self.old) (⟦<Self as DocSet>⟧.meaning self.new) result }
+        ensures stays { Steady (⟦<Self as DocSet>⟧.meaning self.old) → Steady (⟦<Self as DocSet>⟧.meaning self.new) }
         ensures untouched { Steady (S.DocSet.meaning self.old.underlying) → (target ≤ first_id (S.DocSet.meaning self.old.underlying).pairs) ⊎ (TERM ≤ target) → self.new ≡ self.old }
     {
         if target >= TERMINATED {
             return SeekDangerResult::SeekLowerBound(TERMINATED);
         }
         let doc = self.seek(target);
-        if doc == target {
-            return SeekDangerResult::Found;
-        }
-        SeekDangerResult::SeekLowerBound(doc)
-    }
-
-    fn fill_buffer(&mut self, buffer: &mut [u32; 64]) -> usize {
-        fill_by_advance(self, buffer)
-    }
-
-    fn count(self, alive_bitset: &AliveBitSet) -> u32 {
-        count_by_advance(self, alive_bitset)
-    }
-
-    fn count_including_deleted(self) -> u32 {
-        count_all_by_advance(self)
+        SeekDangerResult::at(doc, target)
     }
 
     // The guess of the set below: what is excluded is not known beforehand.

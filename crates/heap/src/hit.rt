@@ -3,7 +3,7 @@ ghost use Rattle.std.specs.Float.{binary32};
 ghost use Rattle.std.specs.Ordering.{as_partial_cmp, eq_by_cmp};
 ghost use Rattle.std.specs.Cmp.{eq_by_cmp_equiv, partial_equiv_from_equiv, partial_order_from_total};
 ghost use Rattle.heap.specs.Scores.{hit_cmp, depth as depth_of};
-ghost use Rattle.heap.specs.Orders.{hits_total};
+ghost use Rattle.heap.specs.HitOrder.{hits_total};
 
 use std::cmp::Ordering;
 use std::num::f32_to_bits_with_nan;

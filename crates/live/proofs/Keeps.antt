@@ -1,14 +1,19 @@
-use Rattle.std.proofs.Common.{◌≡◌, ℕ, zero, suc, ◌+◌, ◌<◌, ◌≤◌, min, Bool, true, false, cond, ltb, ◌≢◌, ◌⊎◌, List, [], ◌∷◌, length, get_or, drop, set, replicate, sym, refl, ap, ◌∙◌, subst, inl, inr, ⊎_elim, add-one, arith, length-set, get_or-set_other, get_or-set_same, below_more, ltb-false, ltb-true}
+use Rattle.std.proofs.Common.{not, nat_eq, ◌≡◌, ℕ, zero, suc, ◌+◌, ◌<◌, ◌≤◌, min, Bool, true, false, cond, ltb, ◌⊎◌, List, [], ◌∷◌, length, get_or, drop, set, replicate, sym, refl, ap, ◌∙◌, subst, inl, inr, ⊎_elim, add-one, arith, below_more, ltb-false, ltb-true}
 use lib.Ieee.{Float}
+use denote.Param.Members.{Mut}
+use Rattle.std.specs.Fn.{Called}
+use Rattle.std.specs.Array.{IsFromFnResult, IsFromFnResultFrom}
 use lib.ListN.{length-replicate, get_or-replicate}
 use Rattle.std.proofs.lemmas.List.{get_or_past}
 use Rattle.docset.specs.Meaning.{is_steady, Meaning, Pair, Steady, steady, lost, Known, Rising, TERM, calm, rest, from, first_id, first_score, zero_score}
 use Rattle.docset.specs.Calls.{Told, Moved, Sought, Scored}
-use Rattle.bank.specs.Places.{at}
+use Rattle.bank.specs.Places.{Rows, at, Elsewhere}
 use Rattle.live.specs.Sets.{empty, lowest_of, AllSteady, all_steady, AllRising, passed, part}
-use Rattle.live.specs.Kept.{kept, awake, none_left, due, due_of, live_at, Advances, Scores, Sent}
+use Rattle.live.specs.Kept.{kept, awake, none_left, due, due_of, live_at}
+use Rattle.live.specs.Views.{left, awaited, Advances, Scores, Sent}
+use Rattle.live.specs.declared.live.Live.{Live}
 use Rattle.docset.proofs.Lists.{ended, rising_rest, rising_from, from_all, steady_known, steady_is, is_then_steady, settled}
-use Rattle.std.proofs.lemmas.Bool.{and_parts, and_from}
+use Rattle.std.proofs.lemmas.Bool.{and_parts, and_from, cases_lt, eqb-true, eqb-false}
 
 pub set_at : (ms : List Meaning) (i : ℕ) → ms ≡ set ms i (at ms i)
 set_at [] i = refl
@@ -77,51 +82,76 @@ due_put (x ∷ bs) (y ∷ ms) zero b m l = rw l (omega arith)
 due_put (x ∷ bs) (y ∷ ms) (suc k) b m l = let h = due_put bs ms k b m l in omega arith
 
 -- one place changed: what is kept, and the due
-pub changed : (bs : List Bool) (P Q : List Meaning) (k : ℕ) (b : Bool) → live_at bs k → Q ≡ set P k (at Q k)
-    → (at (kept (set bs k b) Q) k ≡ cond b (awake (at Q k)) empty)
-    × (kept (set bs k b) Q ≡ set (kept bs P) k (at (kept (set bs k b) Q) k))
-    × (due (set bs k b) Q + suc (length (at P k).pairs) ≡ due bs P + due_of b (at Q k))
-changed bs P Q k b l e =
-    let a : at (kept (set bs k b) Q) k ≡ cond b (awake (at Q k)) empty = at_kept (set bs k b) Q k ∙ ap (λ x. cond x (awake (at Q k)) empty) (flag_set bs k b l) in (
+pub changed : (bs cs : List Bool) (P Q : List Meaning) (k : ℕ) (b : Bool) → live_at bs k → cs ≡ set bs k b → Q ≡ set P k (at Q k)
+    → (at (kept cs Q) k ≡ cond b (awake (at Q k)) empty)
+    × (kept cs Q ≡ set (kept bs P) k (at (kept cs Q) k))
+    × (due cs Q + suc (length (at P k).pairs) ≡ due bs P + due_of b (at Q k))
+changed bs cs P Q k b l f e =
+    let a : at (kept cs Q) k ≡ cond b (awake (at Q k)) empty =
+    at_kept cs Q k ∙ ap (λ (ds : List Bool). cond (get_or ds k false) (awake (at Q k)) empty) f ∙ ap (λ x. cond x (awake (at Q k)) empty) (flag_set bs k b l) in (
       a,
-      ap (kept (set bs k b)) e ∙ kept_put bs P k b (at Q k) ∙ ap (λ X. set (kept bs P) k (cond b (awake (at X k)) empty)) (sym e) ∙ ap (set (kept bs P) k) (sym a),
-      ap (λ X. due (set bs k b) X + suc (length (at P k).pairs)) e ∙ due_put bs P k b (at Q k) l ∙ ap (λ X. due bs P + due_of b (at X k)) (sym e),
+      ap (λ (ds : List Bool). kept ds Q) f ∙ ap (kept (set bs k b)) e ∙ kept_put bs P k b (at Q k) ∙ ap (λ X. set (kept bs P) k (cond b (awake (at X k)) empty)) (sym e) ∙ ap (set (kept bs P) k) (sym a),
+      ap (λ (ds : List Bool). due ds Q + suc (length (at P k).pairs)) f ∙ ap (λ X. due (set bs k b) X + suc (length (at P k).pairs)) e ∙ due_put bs P k b (at Q k) l ∙ ap (λ X. due bs P + due_of b (at X k)) (sym e),
     )
 
 -- a live set that reads as steady
 through : (bs : List Bool) (P : List Meaning) (k : ℕ) → live_at bs k → Steady (at (kept bs P) k) → at (kept bs P) k ≡ at P k
 through bs P k l s = let p = at_live bs P k l in p ∙ awake_is (at P k) (subst Steady p s)
 
-pub advances_live : (bs : List Bool) (P Q : List Meaning) (k r : ℕ) → live_at bs k → Moved (at P k) (at Q k) r → Q ≡ set P k (at Q k) → (r ≡ TERM → ⊥) → Advances bs bs P Q k r
-advances_live bs P Q k r l v e n =
-    let c = changed bs P Q k true l e in
-    let f = flag_same bs k l in
-    let F : List Bool → Type 0 = λ cs. Advances bs cs P Q k r in
-    let p = at_live bs P k l in
-    let lt : length (at Q k).pairs < length (at P k).pairs = ⊎_elim (λ x. x) (λ x. absurd (n x)) v.drops in
-    subst F f (record {
-      steps = record {
-        an_id = v.an_id;
-        becomes = λ s x. let t = through bs P k l s in let w = v.becomes (subst Steady t s) in let y = v.tells (subst Steady t s) in let z = v.an_id in
-            c.0 ∙ ap awake w ∙ awake_some (rest (at P k).pairs) (omega (arith, n)) ∙ ap (λ m. calm (rest m.pairs)) (sym t);
-        tells = λ s. let t = through bs P k l s in v.tells (subst Steady t s) ∙ ap (λ m. first_id (rest m.pairs)) (sym t);
-      };
-      others = c.1;
-      live = λ x. flag_set bs k true l;
-      pays = λ x. let y = c.2 in omega arith;
-      falls = λ x. let y = c.2 in omega arith;
-      never_more = let y = c.2 in omega arith;
-    })
+-- ---- calls at place k
 
-pub advances_ended : (bs : List Bool) (P Q : List Meaning) (k r : ℕ) → live_at bs k → Moved (at P k) (at Q k) r → Q ≡ set P k (at Q k) → r ≡ TERM → Advances bs (set bs k false) P Q k r
-advances_ended bs P Q k r l v e n =
-    let c = changed bs P Q k false l e in
-    let p = at_live bs P k l in
+-- `changed` for a set that stays live, and for one that has ended
+stays :
+    {B : Type 0} (rows : B → Rows) (old new : Live B) (k : ℕ) → live_at old.live k → new.live ≡ old.live → Elsewhere k (rows old.bank) (rows new.bank) →
+    (at (left rows new) k ≡ awake (at (rows new.bank).places k))
+    × (left rows new ≡ set (left rows old) k (at (left rows new) k))
+    × (awaited rows new + suc (length (at (rows old.bank).places k).pairs) ≡ awaited rows old + suc (length (at (rows new.bank).places k).pairs))
+stays rows old new k l f e =
+    changed old.live new.live (rows old.bank).places (rows new.bank).places k true l (f ∙ sym (flag_same old.live k l)) e.lists
+
+ends :
+    {B : Type 0} (rows : B → Rows) (old new : Live B) (k : ℕ) → live_at old.live k → new.live ≡ set old.live k false → Elsewhere k (rows old.bank) (rows new.bank) →
+    (at (left rows new) k ≡ empty)
+    × (left rows new ≡ set (left rows old) k (at (left rows new) k))
+    × (awaited rows new + suc (length (at (rows old.bank).places k).pairs) ≡ awaited rows old + 0)
+ends rows old new k l f e = changed old.live new.live (rows old.bank).places (rows new.bank).places k false l f e.lists
+
+pub advances_live :
+    {B : Type 0} (rows : B → Rows) (old new : Live B) (k r : ℕ) → live_at old.live k → new.live ≡ old.live →
+    Moved (at (rows old.bank).places k) (at (rows new.bank).places k) r → Elsewhere k (rows old.bank) (rows new.bank) →
+    (r ≡ TERM → ⊥) → Advances rows old new k r
+advances_live rows old new k r l f v e n =
+    let c = stays rows old new k l f e in
+    let P = (rows old.bank).places in
+    let Q = (rows new.bank).places in
+    let lt : length (at Q k).pairs < length (at P k).pairs = ⊎_elim (λ x. x) (λ x. absurd (n x)) v.drops in
     record {
       steps = record {
         an_id = v.an_id;
-        becomes = λ s x. c.0 ∙ ap calm (sym (ended 0 (rest (at (kept bs P) k).pairs) (rising_rest (at (kept bs P) k).pairs x) (let t = through bs P k l s in ap (λ m. first_id (rest m.pairs)) t ∙ sym (v.tells (subst Steady t s)) ∙ n)));
-        tells = λ s. let t = through bs P k l s in v.tells (subst Steady t s) ∙ ap (λ m. first_id (rest m.pairs)) (sym t);
+        becomes = λ s x. let t = through old.live P k l s in let w = v.becomes (subst Steady t s) in let y = v.tells (subst Steady t s) in let z = v.an_id in
+            c.0 ∙ ap awake w ∙ awake_some (rest (at P k).pairs) (omega (arith, n)) ∙ ap (λ m. calm (rest m.pairs)) (sym t);
+        tells = λ s. let t = through old.live P k l s in v.tells (subst Steady t s) ∙ ap (λ m. first_id (rest m.pairs)) (sym t);
+      };
+      others = c.1;
+      live = λ x. ap (λ (bs : List Bool). get_or bs k false) f ∙ l;
+      pays = λ x. let y = c.2 in omega arith;
+      falls = λ x. let y = c.2 in omega arith;
+      never_more = let y = c.2 in omega arith;
+    }
+
+pub advances_ended :
+    {B : Type 0} (rows : B → Rows) (old new : Live B) (k r : ℕ) → live_at old.live k → new.live ≡ set old.live k false →
+    Moved (at (rows old.bank).places k) (at (rows new.bank).places k) r → Elsewhere k (rows old.bank) (rows new.bank) →
+    r ≡ TERM → Advances rows old new k r
+advances_ended rows old new k r l f v e n =
+    let c = ends rows old new k l f e in
+    let P = (rows old.bank).places in
+    let W = left rows old in
+    record {
+      steps = record {
+        an_id = v.an_id;
+        becomes = λ s x. c.0 ∙ ap calm (sym (ended 0 (rest (at W k).pairs) (rising_rest (at W k).pairs x) (let t = through old.live P k l s in ap (λ m. first_id (rest m.pairs)) t ∙ sym (v.tells (subst Steady t s)) ∙ n)));
+        tells = λ s. let t = through old.live P k l s in v.tells (subst Steady t s) ∙ ap (λ m. first_id (rest m.pairs)) (sym t);
       };
       others = c.1;
       live = λ x. absurd (omega arith);
@@ -130,47 +160,47 @@ advances_ended bs P Q k r l v e n =
       never_more = let y = c.2 in omega arith;
     }
 
-pub advances_none : (bs : List Bool) (P : List Meaning) (k : ℕ) → get_or bs k false ≡ false → Advances bs bs P P k TERM
-advances_none bs P k l =
-    let a = at_dead bs P k l in
+pub advances_none : {B : Type 0} (rows : B → Rows) (old : Live B) (k : ℕ) → get_or old.live k false ≡ false → Advances rows old old k TERM
+advances_none rows old k l =
+    let a = at_dead old.live (rows old.bank).places k l in
     record {
       steps = record {
         an_id = omega arith;
         becomes = λ s x. a ∙ ap (λ m. calm (rest m.pairs)) (sym a);
         tells = λ s. ap (λ m. first_id (rest m.pairs)) (sym a);
       };
-      others = set_at (kept bs P) k;
+      others = set_at (left rows old) k;
       live = λ x. absurd (omega arith);
       pays = λ x. absurd (let y : ◌≡◌ {A = ℕ} 0 1 = cc in omega arith);
       falls = λ x. absurd (omega arith);
       never_more = omega arith;
     }
 
-pub scores_live : (bs : List Bool) (P Q : List Meaning) (k : ℕ) (r : Float) → live_at bs k → Scored (at P k) (at Q k) r → Q ≡ set P k (at Q k) → Scores bs bs P Q k r
-scores_live bs P Q k r l v e =
-    let c = changed bs P Q k true l e in
-    let f = flag_same bs k l in
-    let p = at_live bs P k l in
-    let q = at_live bs Q k l in
-    let G : Meaning → Meaning → Type 0 = λ m n. Scored m n r in
+pub scores_live :
+    {B : Type 0} (rows : B → Rows) (old new : Live B) (k : ℕ) (r : Float) → live_at old.live k → new.live ≡ old.live →
+    Scored (at (rows old.bank).places k) (at (rows new.bank).places k) r → Elsewhere k (rows old.bank) (rows new.bank) → Scores rows old new k r
+scores_live rows old new k r l f v e =
+    let c = stays rows old new k l f e in
+    let P = (rows old.bank).places in
+    let p = at_live old.live P k l in
     record {
       tells = record {
-        shrinks = let s = v.shrinks in let x = ap (λ m. length m.pairs) p in let y = ap (λ m. length m.pairs) q in omega arith;
-        same = λ s. let t = through bs P k l s in q ∙ ap awake (v.same (subst Steady t s)) ∙ sym p;
-        tells = λ s. let t = through bs P k l s in v.tells (subst Steady t s) ∙ ap (λ m. first_score m.pairs) (sym t);
+        shrinks = let s = v.shrinks in let x = ap (λ m. length m.pairs) p in let y = ap (λ m. length m.pairs) c.0 in omega arith;
+        same = λ s. let t = through old.live P k l s in c.0 ∙ ap awake (v.same (subst Steady t s)) ∙ sym p;
+        tells = λ s. let t = through old.live P k l s in v.tells (subst Steady t s) ∙ ap (λ m. first_score m.pairs) (sym t);
       };
-      others = let F : List Bool → Type 0 = λ cs. kept cs Q ≡ set (kept bs P) k (at (kept cs Q) k) in subst F f c.1;
-      live = refl;
-      pays = let F : List Bool → Type 0 = λ cs. due cs Q ≤ due bs P in let s = v.shrinks in let y = c.2 in subst F f (omega arith);
+      others = c.1;
+      live = f;
+      pays = let s = v.shrinks in let y = c.2 in omega arith;
     }
 
-pub scores_none : (bs : List Bool) (P : List Meaning) (k : ℕ) → get_or bs k false ≡ false → Scores bs bs P P k zero_score
-scores_none bs P k l =
-    let a = at_dead bs P k l in
+pub scores_none : {B : Type 0} (rows : B → Rows) (old : Live B) (k : ℕ) → get_or old.live k false ≡ false → Scores rows old old k zero_score
+scores_none rows old k l =
+    let a = at_dead old.live (rows old.bank).places k l in
     let G : Meaning → Type 0 = λ m. Scored m m zero_score in
     record {
       tells = subst G (sym a) (record { shrinks = omega arith; same = λ s. refl; tells = λ s. refl });
-      others = set_at (kept bs P) k;
+      others = set_at (left rows old) k;
       live = refl;
       pays = omega arith;
     }
@@ -226,14 +256,44 @@ live_inside (b ∷ bs) zero l = omega arith
 live_inside (b ∷ bs) (suc k) l = let h = live_inside bs k l in omega arith
 
 -- what a flag makes of a set leaves it as it is
-abbrev pub Apt : Bool → Meaning → Type 0
+abbrev Apt : Bool → Meaning → Type 0
 Apt b m = cond b (awake m) empty ≡ m
 
-pub apt_off : (m : Meaning) (d : ℕ) → Told m d → d ≡ TERM → Steady m → Apt false m
-apt_off m d t q s = ap calm (sym (ended 0 m.pairs (t.rises (steady_known m.mark s)) (sym (t.tells s) ∙ q))) ∙ sym (settled m m.pairs s refl)
+-- the flag that a set's answer d makes
+flag_apt : (m : Meaning) (d : ℕ) (b : Bool) → Told m d → b ≡ not (nat_eq d TERM) → Steady m → Apt b m
+flag_apt m d b t e s = subst (λ (x : Bool). Apt x m) (sym e) (go (nat_eq d TERM) refl)
+  where
+    same : m ≡ calm m.pairs
+    same = settled m m.pairs s refl
 
-pub apt_on : (m : Meaning) (d : ℕ) → Told m d → (d ≡ TERM → ⊥) → Steady m → Apt true m
-apt_on m d t q s = let e = t.tells s in let a = t.an_id in ap awake (settled m m.pairs s refl) ∙ awake_some m.pairs (omega (arith, q)) ∙ sym (settled m m.pairs s refl)
+    first : d ≡ first_id m.pairs
+    first = t.tells s
+
+    go : (x : Bool) → nat_eq d TERM ≡ x → Apt (not x) m
+    go true e = let q = eqb-true d TERM e in ap calm (sym (ended 0 m.pairs (t.rises (steady_known m.mark s)) (omega arith))) ∙ sym same
+    go false e = let q = eqb-false d TERM e in let a = t.an_id in ap awake same ∙ awake_some m.pairs (omega (arith, q)) ∙ sym same
+
+-- an array of what a closure, which stays as it is, says of each number
+from_each :
+    {F B : Type 0} (g : Mut F (ℕ × Unit {0}) B) (R : ℕ → B → Type 0) (f : F) →
+    ((i : ℕ) (y : B) (q : F) → Called g f (i, tt) y q → R i y × (q ≡ f)) →
+    (ys : List B) (i n : ℕ) → IsFromFnResultFrom g f ys i n → (k : ℕ) (e : B) → i ≤ k → k < i + n → R k (get_or ys k e)
+from_each g R f step ys i zero c k e lo hi = absurd (omega arith)
+from_each g R f step ys i (suc n) c k e lo hi =
+    let s = step i c.1 c.0 c.3 in
+    ⊎_elim
+    (λ l. from_each g R f step ys (i + 1) n (subst (λ p. IsFromFnResultFrom g p ys (i + 1) n) s.1 c.4) k e (omega arith) (omega arith))
+    (λ l. subst (λ j. R j (get_or ys j e)) (omega arith) (subst (R i) (sym (c.2.1 e)) s.0))
+    (cases_lt i k)
+
+-- flags that are so made of what the first 32 sets answer leave steady sets as they are
+pub flags_apt :
+    {F : Type 0} (g : Mut F (ℕ × Unit {0}) Bool) (P : List Meaning) (f : F) (bs : List Bool) → IsFromFnResult g f bs 32 →
+    ((i : ℕ) (b : Bool) (q : F) → Called g f (i, tt) b q → ((d : ℕ) × Told (at P i) d × (b ≡ not (nat_eq d TERM))) × (q ≡ f)) →
+    AllSteady P → (k : ℕ) → k < 32 → at (kept bs P) k ≡ at P k
+flags_apt g P f bs r step s k l =
+    let a = from_each g (λ i b. (d : ℕ) × Told (at P i) d × (b ≡ not (nat_eq d TERM))) f step bs 0 32 r.each k false (omega arith) (omega arith) in
+    at_kept bs P k ∙ flag_apt (at P k) a.0 (get_or bs k false) a.1 a.2 (steady_at P k s)
 
 pub at_outside : (ms : List Meaning) (k : ℕ) → length ms ≤ k → at ms k ≡ empty
 at_outside [] k h = refl
@@ -254,47 +314,59 @@ pub steady_is_all : (ms : List Meaning) → AllSteady ms → all_steady ms ≡ t
 steady_is_all [] s = refl
 steady_is_all (m ∷ ms) s = and_from _ _ (steady_is m.mark s.0) (steady_is_all ms s.1)
 
--- seeking
-pub sent_stay : (t : ℕ) (bs : List Bool) (P : List Meaning) (k d : ℕ) → Told (at (kept bs P) k) d → t ≤ d → Sent t bs bs P P k
-sent_stay t bs P k d v le = record {
-  rises = λ s. v.rises (steady_known (at (kept bs P) k).mark s);
-  becomes = λ s. settled (at (kept bs P) k) (at (kept bs P) k).pairs s refl ∙ ap calm (sym (from_all t (at (kept bs P) k).pairs (let e = v.tells s in omega arith)));
-  others = set_at (kept bs P) k;
-  pays = omega arith;
-}
+-- ---- seeking
 
-pub sent_none : (t : ℕ) (bs : List Bool) (P : List Meaning) (k d : ℕ) → Told (at (kept bs P) k) d → get_or bs k false ≡ false → Sent t bs bs P P k
-sent_none t bs P k d v l =
-    let a = at_dead bs P k l in
+-- a set that stands at t or past it
+pub sent_stay :
+    {B : Type 0} (t : ℕ) (rows : B → Rows) (old : Live B) (k d : ℕ) → Told (at (left rows old) k) d → t ≤ d → Sent t rows old old k
+sent_stay t rows old k d v le =
+    let m = at (left rows old) k in
     record {
-      rises = λ s. v.rises (steady_known (at (kept bs P) k).mark s);
-      becomes = λ s. a ∙ ap (λ m. calm (from t m.pairs)) (sym a);
-      others = set_at (kept bs P) k;
+      rises = λ s. v.rises (steady_known m.mark s);
+      becomes = λ s. settled m m.pairs s refl ∙ ap calm (sym (from_all t m.pairs (let e = v.tells s in omega arith)));
+      others = set_at (left rows old) k;
       pays = omega arith;
     }
 
-pub sent_live : (t : ℕ) (bs : List Bool) (P Q : List Meaning) (k d r : ℕ) → Told (at (kept bs P) k) d → live_at bs k → Sought t (at P k) (at Q k) r → Q ≡ set P k (at Q k) → (r ≡ TERM → ⊥) → Sent t bs bs P Q k
-sent_live t bs P Q k d r u l v e n =
-    let c = changed bs P Q k true l e in
-    let f = flag_same bs k l in
-    let F : List Bool → Type 0 = λ cs. Sent t bs cs P Q k in
-    let p = at_live bs P k l in
-    subst F f (record {
-      rises = λ s. u.rises (steady_known (at (kept bs P) k).mark s);
-      becomes = λ s. let x = through bs P k l s in let w = v.becomes (subst Steady x s) in let y = v.tells (subst Steady x s) in let z = v.an_id in
+pub sent_none :
+    {B : Type 0} (t : ℕ) (rows : B → Rows) (old : Live B) (k d : ℕ) → Told (at (left rows old) k) d → get_or old.live k false ≡ false →
+    Sent t rows old old k
+sent_none t rows old k d v l =
+    let a = at_dead old.live (rows old.bank).places k l in
+    record {
+      rises = λ s. v.rises (steady_known (at (left rows old) k).mark s);
+      becomes = λ s. a ∙ ap (λ m. calm (from t m.pairs)) (sym a);
+      others = set_at (left rows old) k;
+      pays = omega arith;
+    }
+
+pub sent_live :
+    {B : Type 0} (t : ℕ) (rows : B → Rows) (old new : Live B) (k d r : ℕ) → Told (at (left rows old) k) d → live_at old.live k →
+    new.live ≡ old.live → Sought t (at (rows old.bank).places k) (at (rows new.bank).places k) r →
+    Elsewhere k (rows old.bank) (rows new.bank) → (r ≡ TERM → ⊥) → Sent t rows old new k
+sent_live t rows old new k d r u l f v e n =
+    let c = stays rows old new k l f e in
+    let P = (rows old.bank).places in
+    record {
+      rises = λ s. u.rises (steady_known (at (left rows old) k).mark s);
+      becomes = λ s. let x = through old.live P k l s in let w = v.becomes (subst Steady x s) in let y = v.tells (subst Steady x s) in let z = v.an_id in
           c.0 ∙ ap awake w ∙ awake_some (from t (at P k).pairs) (omega (arith, n)) ∙ ap (λ m. calm (from t m.pairs)) (sym x);
       others = c.1;
       pays = let y = c.2 in let z = v.shrinks in omega arith;
-    })
+    }
 
-pub sent_ended : (t : ℕ) (bs : List Bool) (P Q : List Meaning) (k d r : ℕ) → Told (at (kept bs P) k) d → live_at bs k → Sought t (at P k) (at Q k) r → Q ≡ set P k (at Q k) → r ≡ TERM → Sent t bs (set bs k false) P Q k
-sent_ended t bs P Q k d r u l v e n =
-    let c = changed bs P Q k false l e in
-    let p = at_live bs P k l in
+pub sent_ended :
+    {B : Type 0} (t : ℕ) (rows : B → Rows) (old new : Live B) (k d r : ℕ) → Told (at (left rows old) k) d → live_at old.live k →
+    new.live ≡ set old.live k false → Sought t (at (rows old.bank).places k) (at (rows new.bank).places k) r →
+    Elsewhere k (rows old.bank) (rows new.bank) → r ≡ TERM → Sent t rows old new k
+sent_ended t rows old new k d r u l f v e n =
+    let c = ends rows old new k l f e in
+    let P = (rows old.bank).places in
+    let m = at (left rows old) k in
     record {
-      rises = λ s. u.rises (steady_known (at (kept bs P) k).mark s);
-      becomes = λ s. c.0 ∙ ap calm (sym (ended 0 (from t (at (kept bs P) k).pairs) (rising_from t 0 (at (kept bs P) k).pairs (u.rises (steady_known (at (kept bs P) k).mark s)))
-          (let x = through bs P k l s in ap (λ m. first_id (from t m.pairs)) x ∙ sym (v.tells (subst Steady x s)) ∙ n)));
+      rises = λ s. u.rises (steady_known m.mark s);
+      becomes = λ s. c.0 ∙ ap calm (sym (ended 0 (from t m.pairs) (rising_from t 0 m.pairs (u.rises (steady_known m.mark s)))
+          (let x = through old.live P k l s in ap (λ m. first_id (from t m.pairs)) x ∙ sym (v.tells (subst Steady x s)) ∙ n)));
       others = c.1;
       pays = let y = c.2 in omega arith;
     }
@@ -317,51 +389,29 @@ part_all h zero (m ∷ ms) le = absurd (omega arith)
 part_all h (suc n) (m ∷ ms) le = ap (λ xs. calm (from h m.pairs) ∷ xs) (part_all h n ms (omega arith))
 
 -- the first i sets are sought to t
-pub record Sending (t i : ℕ) (bs cs : List Bool) (P Q : List Meaning) : Type 0 where
-  pub rises : AllSteady (kept bs P) → (k : ℕ) → k < i → Rising 0 (at (kept bs P) k).pairs
-  pub becomes : AllSteady (kept bs P) → kept cs Q ≡ part t i (kept bs P)
-  pub pays : due cs Q ≤ due bs P
+pub record Sending {B : Type 0} (t i : ℕ) (rows : B → Rows) (old new : Live B) : Type 0 where
+  pub rises : AllSteady (left rows old) → (k : ℕ) → k < i → Rising 0 (at (left rows old) k).pairs
+  pub becomes : AllSteady (left rows old) → left rows new ≡ part t i (left rows old)
+  pub pays : awaited rows new ≤ awaited rows old
 
-pub sending_more : (t i : ℕ) (bs cs ds : List Bool) (P Q R : List Meaning) → Sending t i bs cs P Q → Sent t cs ds Q R i → Sending t (i + 1) bs ds P R
-sending_more t i bs cs ds P Q R v w = record {
-  rises = λ s. below_more _ _ (v.rises s) (subst Up (here s) (w.rises (subst Steady (sym (here s)) (steady_at (kept bs P) i s))));
-  becomes = λ s. rw add-one (w.others ∙ ap (set (kept cs Q) i) (w.becomes (subst Steady (sym (here s)) (steady_at (kept bs P) i s)) ∙ ap (λ m. calm (from t m.pairs)) (here s))
-      ∙ ap (λ X. set X i (calm (from t (at (kept bs P) i).pairs))) (v.becomes s) ∙ set_part t i (kept bs P));
+pub sending_more :
+    {B : Type 0} (t i : ℕ) (rows : B → Rows) (old mid new : Live B) → Sending t i rows old mid → Sent t rows mid new i →
+    Sending t (i + 1) rows old new
+sending_more t i rows old mid new v w = record {
+  rises = λ s. below_more _ _ (v.rises s) (subst Up (here s) (w.rises (subst Steady (sym (here s)) (steady_at W i s))));
+  becomes = λ s. rw add-one (w.others ∙ ap (set (left rows mid) i) (w.becomes (subst Steady (sym (here s)) (steady_at W i s)) ∙ ap (λ m. calm (from t m.pairs)) (here s))
+      ∙ ap (λ X. set X i (calm (from t (at W i).pairs))) (v.becomes s) ∙ set_part t i W);
   pays = let a = v.pays in let b = w.pays in omega arith;
 }
   where
+    W : List Meaning
+    W = left rows old
+
     Up : Meaning → Type 0
     Up m = Rising 0 m.pairs
 
-    here : AllSteady (kept bs P) → at (kept cs Q) i ≡ at (kept bs P) i
-    here s = ap (λ X. at X i) (v.becomes s) ∙ at_part t i (kept bs P)
-
--- the flags of the first i sets are set by what they answered
-abbrev pub Flags : ℕ → List Bool → List Meaning → Type 0
-Flags i bs P =
-    (length bs ≡ 32)
-    × ((k : ℕ) → i ≤ k → k < 32 → get_or bs k false ≡ true)
-    × (AllSteady P → (k : ℕ) → k < i → Apt (get_or bs k false) (at P k))
-
-pub flags_none : (P : List Meaning) → Flags 0 (replicate 32 true) P
-flags_none P = (length-replicate 32 true, (λ k g l. get_or-replicate 32 k true false l), (λ s k l. absurd (omega arith)))
-
-pub flags_off : (i d : ℕ) (bs : List Bool) (P : List Meaning) → i < 32 → Told (at P i) d → d ≡ TERM → Flags i bs P → Flags (i + 1) (set bs i false) P
-flags_off i d bs P lt t q v =
-    let n = v.0 in (
-      simp length-set n,
-      (λ k g l. let ne : k ≢ i = omega arith in rw get_or-set_other (v.1 k (omega arith) l)),
-      (λ s. below_more _ _
-          (λ k l. let ne : k ≢ i = omega arith in let e = get_or-set_other bs i k false false ne in let F : Bool → Type 0 = λ b. Apt b (at P k) in subst F (sym e) (v.2 s k l))
-          (let h : i < length bs = omega arith in let e = get_or-set_same bs i false false h in let F : Bool → Type 0 = λ b. Apt b (at P i) in subst F (sym e) (apt_off (at P i) d t q (steady_at P i s)))),
-    )
-
-pub flags_on : (i d : ℕ) (bs : List Bool) (P : List Meaning) → i < 32 → Told (at P i) d → (d ≡ TERM → ⊥) → Flags i bs P → Flags (i + 1) bs P
-flags_on i d bs P lt t q v = (
-  v.0,
-  (λ k g l. v.1 k (omega arith) l),
-  (λ s. below_more _ _ (v.2 s) (let F : Bool → Type 0 = λ b. Apt b (at P i) in subst F (sym (v.1 i (omega arith) lt)) (apt_on (at P i) d t q (steady_at P i s)))),
-)
+    here : AllSteady W → at (left rows mid) i ≡ at W i
+    here s = ap (λ X. at X i) (v.becomes s) ∙ at_part t i W
 
 pub idle_at : (n : ℕ) (P : List Meaning) (k : ℕ) → at (kept (replicate n false) P) k ≡ empty
 idle_at n P k = at_dead (replicate n false) P k (off (split k n))

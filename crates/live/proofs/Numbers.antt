@@ -1,7 +1,13 @@
 -- The hints and costs of several sets: those of the live ones, their sum, and the greatest of all.
-use Rattle.std.proofs.Common.{◌≡◌, ℕ, zero, suc, ◌+◌, ◌<◌, ◌≤◌, min, max, Bool, true, false, List, [], ◌∷◌, ◌++◌, length, get_or, take, drop, set, replicate, sym, refl, ap, ◌∙◌, append_assoc, add-one, arith, length-take, drop-cons, take-suc-set}
-use Rattle.std.proofs.lemmas.List.{get_or-take}
-use Rattle.live.specs.Kept.{chosen, sum_of, greatest_of}
+use Rattle.std.proofs.Common.{Option, ◌≡◌, ℕ, zero, suc, ◌+◌, ◌<◌, ◌≤◌, min, max, Bool, true, false, List, [], ◌∷◌, ◌++◌, map, length, get_or, take, drop, set, replicate, sym, refl, ap, ◌∙◌, append_assoc, add-one, arith, drop-cons, take-suc-set}
+use Rattle.std.specs.Iterator.{PicksByCmp}
+use Rattle.std.proofs.lemmas.Iterator.{YieldsList}
+use Rattle.std.specs.List.{fold, range_with_len}
+use Rattle.std.specs.Option.{unwrap_or}
+use Rattle.std.specs.Ordering.{nat_cmp, max_by_ordering}
+use Rattle.std.proofs.lemmas.Iterator.Consumers.{reduce_from_yields_List}
+use Rattle.std.proofs.lemmas.List.Folds.{max_of_map}
+use Rattle.live.specs.Kept.{chosen, sum_of, greatest_of, greatest}
 
 -- the numbers at the live places from i on
 abbrev pub later : List Bool → List ℕ → ℕ → List ℕ
@@ -32,25 +38,33 @@ drop_nil : {X : Type 0} (i : ℕ) → drop {A = X} i [] ≡ []
 drop_nil zero = refl
 drop_nil (suc i) = refl
 
--- the greatest from place i on
-pub greatest_step : (xs : List ℕ) (i : ℕ) → greatest_of (drop i xs) ≡ max (get_or xs i 0) (greatest_of (drop (i + 1) xs))
-greatest_step [] i = rw (drop_nil i) (rw (drop_nil (i + 1)))
-greatest_step (x ∷ xs) zero = refl
-greatest_step (x ∷ xs) (suc i) = let e = greatest_step xs i in rw add-one (rw add-one at e)
+take_nil : {X : Type 0} (i : ℕ) → take {A = X} i [] ≡ []
+take_nil zero = refl
+take_nil (suc i) = refl
 
-pub greatest_none : (xs : List ℕ) (i : ℕ) → length xs ≤ i → greatest_of (drop i xs) ≡ 0
-greatest_none xs i h = ap greatest_of (drop_end i xs h)
+-- the greatest of n numbers from place i on
+greatest_next :
+    (xs : List ℕ) (i n : ℕ) → greatest_of (take (suc n) (drop i xs)) ≡ max (get_or xs i 0) (greatest_of (take n (drop (i + 1) xs)))
+greatest_next [] i n = rw (drop_nil i) (rw (drop_nil (i + 1)) (rw (take_nil n) refl))
+greatest_next (x ∷ xs) zero n = refl
+greatest_next (x ∷ xs) (suc i) n = let e = greatest_next xs i n in rw add-one (rw add-one at e)
 
--- one turn of a loop for the greatest
-pub greatest_more :
-    (xs : List ℕ) (i acc x r goal : ℕ) → i < 32 → x ≡ get_or xs i 0 → r ≡ max x acc →
-    max acc (greatest_of (drop i (take 32 xs))) ≡ goal → max r (greatest_of (drop (i + 1) (take 32 xs))) ≡ goal
-greatest_more xs i acc x r goal lt p q e =
-    let s = greatest_step (take 32 xs) i in let g = get_or-take 32 xs i 0 lt in omega arith
+greatest_range :
+    (xs : List ℕ) (i n acc : ℕ) →
+    fold (λ a k. max a (get_or xs k 0)) acc (range_with_len i n) ≡ max acc (greatest_of (take n (drop i xs)))
+greatest_range xs i zero acc = omega arith
+greatest_range xs i (suc n) acc =
+    let e = greatest_next xs i n in
+    greatest_range xs (i + 1) n (max acc (get_or xs i 0)) ∙ omega arith
 
-pub greatest_all : (xs : List ℕ) (i acc goal : ℕ) → 32 ≤ i → max acc (greatest_of (drop i (take 32 xs))) ≡ goal → acc ≡ goal
-greatest_all xs i acc goal le e =
-    let l = length-take 32 xs in let z = greatest_none (take 32 xs) i (omega arith) in omega arith
+-- the maximum of what the first 32 places, asked in turn, answer
+pub greatest_asked :
+    {S : Type 0} {steps : S → Option ℕ → S → Type 0} (xs : List ℕ) (s : S) (r : Option ℕ) → PicksByCmp steps max_by_ordering nat_cmp s r →
+    YieldsList steps (λ x. x) s (map (λ k. get_or xs k 0) (range_with_len 0 32)) → unwrap_or r 0 ≡ greatest xs
+greatest_asked xs s r p y =
+    let ask : ℕ → ℕ = λ k. get_or xs k 0 in
+    let e = greatest_range xs 0 32 0 in
+    ap (λ o. unwrap_or o 0) (reduce_from_yields_List _ s r p y) ∙ max_of_map ask (range_with_len 0 32) ∙ omega arith
 
 -- one turn of a loop for the sum
 pub sum_live :

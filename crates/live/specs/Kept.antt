@@ -1,11 +1,8 @@
 -- A bank of which the sets that have answered TERMINATED are asked no more. A flag for each place says whether its set is
--- live, which is to say that it has not ended. bs are the flags before a call and cs after it, P and Q the sets.
-use Rattle.std.specs.Prelude.{◌≡◌, ℕ, suc, ◌+◌, ◌<◌, ◌≤◌, min, max, Bool, true, false, cond, List, [], ◌∷◌, length, take, slice_index, slice_index_or, slice_set, Float}
-use Rattle.docset.specs.Calls.{Scored}
-use Rattle.docset.specs.Meaning.{Meaning, Pair, lost, Steady, Rising, TERM, calm, rest, from, first_id, first_score}
-use Rattle.combiner.specs.declared.score_combiner.Tally.{Tally}
-use Rattle.bank.specs.Places.{at}
-use Rattle.live.specs.Sets.{empty, AllSteady, AllRising, passed}
+-- live, which is to say that it has not ended.
+use Rattle.std.specs.Prelude.{◌≡◌, ℕ, suc, ◌+◌, ◌≤◌, min, max, Bool, true, false, cond, List, [], ◌∷◌, length, take, slice_index, slice_index_or}
+use Rattle.docset.specs.Meaning.{Meaning, Pair, lost, Steady, Rising, TERM, calm, rest, first_id}
+use Rattle.live.specs.Sets.{empty}
 
 -- ---- what is left of the sets
 
@@ -60,47 +57,10 @@ greatest_of (x ∷ xs) = max x (greatest_of xs)
 abbrev pub greatest : List ℕ → ℕ
 greatest xs = greatest_of (take 32 xs)
 
--- ---- calls
+-- ---- a step
 
 -- one step of the set m to n, which tells r
 pub record Stepped (m n : Meaning) (r : ℕ) : Type 0 where
   pub an_id : r ≤ TERM
   pub becomes : Steady m → Rising 0 m.pairs → n ≡ calm (rest m.pairs)
   pub tells : Steady m → r ≡ first_id (rest m.pairs)
-
--- a step at place k
-pub record Advances (bs cs : List Bool) (P Q : List Meaning) (k r : ℕ) : Type 0 where
-  pub steps : Stepped (at (kept bs P) k) (at (kept cs Q) k) r
-  pub others : kept cs Q ≡ slice_set (kept bs P) k (at (kept cs Q) k)
-  pub live : r < TERM → live_at cs k
-  pub pays : live_at bs k → due cs Q < due bs P
-  pub falls : r < TERM → due cs Q < due bs P
-  pub never_more : due cs Q ≤ due bs P
-
--- the score at place k
-pub record Scores (bs cs : List Bool) (P Q : List Meaning) (k : ℕ) (r : Float) : Type 0 where
-  pub tells : Scored (at (kept bs P) k) (at (kept cs Q) k) r
-  pub others : kept cs Q ≡ slice_set (kept bs P) k (at (kept cs Q) k)
-  pub live : cs ≡ bs
-  pub pays : due cs Q ≤ due bs P
-
--- the score at place k, or any number where the combiner's step `take` makes the same of all
-pub record Wanted (take : Tally → Float → Tally) (bs cs : List Bool) (P Q : List Meaning) (k : ℕ) (r : Float) : Type 0 where
-  pub same : Steady (at (kept bs P) k) → at (kept cs Q) k ≡ at (kept bs P) k
-  pub alike : Steady (at (kept bs P) k) → (t : Tally) → take t r ≡ take t (first_score (at (kept bs P) k).pairs)
-  pub others : kept cs Q ≡ slice_set (kept bs P) k (at (kept cs Q) k)
-  pub live : cs ≡ bs
-  pub pays : due cs Q ≤ due bs P
-
--- the set at place k sought to t
-pub record Sent (t : ℕ) (bs cs : List Bool) (P Q : List Meaning) (k : ℕ) : Type 0 where
-  pub rises : Steady (at (kept bs P) k) → Rising 0 (at (kept bs P) k).pairs
-  pub becomes : Steady (at (kept bs P) k) → at (kept cs Q) k ≡ calm (from t (at (kept bs P) k).pairs)
-  pub others : kept cs Q ≡ slice_set (kept bs P) k (at (kept cs Q) k)
-  pub pays : due cs Q ≤ due bs P
-
--- every set sought to t
-pub record AllSent (t : ℕ) (bs cs : List Bool) (P Q : List Meaning) : Type 0 where
-  pub rises : AllSteady (kept bs P) → AllRising (kept bs P)
-  pub becomes : AllSteady (kept bs P) → kept cs Q ≡ passed t (kept bs P)
-  pub pays : due cs Q ≤ due bs P

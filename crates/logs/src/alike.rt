@@ -18,7 +18,7 @@ pub fn same_score(a: f32, b: f32) -> bool
     f32_to_bits_with_nan(a) == f32_to_bits_with_nan(b)
 }
 
-// Whether two answers are the same, scores as `same_score` has it.
+// Whether two answers are the same, scores as `same_score` has it. A derived `==` would take 0.0 for -0.0, and no NaN for itself.
 pub fn same_answer(a: &Answer, b: &Answer) -> bool
     ensures { (result ≡ true) ⟺ (a.now ≡ b.now) }
 {

@@ -54,10 +54,10 @@ pub fn replay_into<S: Scorer>(set: &mut S, calls: &[Call], answers: &mut [Answer
     ensures log { Replayed (S.DocSet.meaning set.old) (S.DocSet.meaning set.new) (take result calls.now) ongoing (take result answers.new) }
     ensures later { drop result answers.new ≡ drop result answers.old }
 {
-    let mut made = 0;
-    while made < calls.len() && made < answers.len() {
-        answers[made] = ask(set, &calls[made]);
-        made += 1;
+    let made = calls.len().min(answers.len());
+    // By the place: of what a zip with `iter_mut` writes a proof knows nothing.
+    for (place, call) in calls[..made].iter().enumerate() {
+        answers[place] = ask(set, call);
     }
     made
 }
@@ -73,15 +73,11 @@ pub fn replay_to_end<S: Scorer>(
     ensures { IfOk result (λ answers. ((n : Meaning) × Replayed (S.DocSet.meaning set) n calls.now (end_of last alive_bitset.now.words.now) answers.items)) }
 {
     let mut answers = replay(heap, &mut set, calls)?;
-    match last {
-        Last::Keep => Ok(answers),
-        Last::Count => {
-            answers.push(Answer::Number(set.count(alive_bitset)))?;
-            Ok(answers)
-        }
-        Last::CountIncludingDeleted => {
-            answers.push(Answer::Number(set.count_including_deleted()))?;
-            Ok(answers)
-        }
-    }
+    let number = match last {
+        Last::Keep => return Ok(answers),
+        Last::Count => set.count(alive_bitset),
+        Last::CountIncludingDeleted => set.count_including_deleted(),
+    };
+    answers.push(Answer::Number(number))?;
+    Ok(answers)
 }

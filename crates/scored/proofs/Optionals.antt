@@ -2,17 +2,16 @@
 use Rattle.std.proofs.Common.{◌≡◌, ℕ, suc, ◌<◌, ◌≤◌, Bool, true, ◌&&◌, eqb, ◌⊎◌, List, [], ◌∷◌, Some, None, Option, sym, refl, ap, ◌∙◌, inl, inr, ⊎_elim, arith}
 use lib.Ieee.{Float}
 use Rattle.std.proofs.lemmas.Bool.{cond-true, cond-false, cases_lt, eq-eqb, ne_eqb, and_parts, and_from}
-use Rattle.docset.specs.Meaning.{Meaning, is_steady, Pair, TERM, Steady, calm, first_id, first_score, zero_score, from, Rising}
+use Rattle.docset.specs.Meaning.{Meaning, is_steady, Pair, TERM, Steady, calm, first_id, first_score, from, Rising}
 use Rattle.docset.specs.Calls.{Told, Moved, Sought, Probed, Filled, Counted, CountedAlive, Scored}
 use Rattle.docset.specs.declared.docset.SeekDangerResult.{SeekDangerResult}
 use Rattle.docset.proofs.Lists.{steady_known, steady_is, is_then_steady, rising_from, from_lt, from_ge, from_least}
-use Rattle.combiner.specs.declared.score_combiner.Tally.{Tally}
-use Rattle.combiner.specs.Scores.{combined, as_list}
+use Rattle.std.specs.Option.{option_to_list}
 use Rattle.scored.specs.Rescored.{rescored, retold}
 use Rattle.scored.specs.Optional.{scores_of, both, same_float, cached, opted, LookedUp}
-use Rattle.scored.proofs.Rescored.{length_rescored, told_retold, moved_retold, sought_retold, probed_retold, filled_retold, counted_retold, counted_alive_retold, scored_none}
-use Rattle.scored.proofs.Same.{float_refl, float_same}
-use Rattle.scored.proofs.Marked.{marked_steady, marked_true, told_marked, moved_marked, sought_marked, probed_marked, filled_marked, counted_marked, counted_alive_marked, scored_marked}
+use Rattle.scored.proofs.Rescored.{length_rescored, told_retold, moved_retold, sought_retold, probed_retold, filled_retold, counted_retold, counted_alive_retold}
+use Rattle.scored.proofs.Same.{float_refl}
+use Rattle.scored.proofs.Marked.{marked_steady, marked_true, told_marked, moved_marked, sought_marked, probed_marked, filled_marked, counted_marked, counted_alive_marked}
 
 -- ---- the test
 
@@ -27,10 +26,6 @@ cleared h k m n o e =
 optional_steady : (h : List Float → Float) (k : Option Float) (m o : Meaning) → test h k m o ≡ true → Steady o
 optional_steady h k m o e =
     is_then_steady o.mark (and_parts (is_steady o.mark) (cached k (rescored (both h o.pairs) m.pairs)) e).0
-
-pub opted_new : (h : List Float → Float) (m o : Meaning) → Steady o → opted h None m o ≡ retold (both h o.pairs) m
-opted_new h m o s =
-    marked_true (test h None m o) (retold (both h o.pairs) m) (and_from _ _ (steady_is o.mark s) refl)
 
 -- ---- the calls
 
@@ -141,23 +136,6 @@ look_found d e o q w x lt h z c =
 
 -- ---- the score
 
-pub score_kept : (h : List Float → Float) (x : Float) (m o : Meaning) → Scored (opted h (Some x) m o) (opted h (Some x) m o) x
-score_kept h x m o =
-    let ps = rescored (both h o.pairs) m.pairs in
-    record {
-      shrinks = omega arith;
-      same = λ s. refl;
-      tells = λ s.
-          float_same x _
-          (and_parts (is_steady o.mark) (same_float x (first_score ps))
-          (marked_steady (test h (Some x) m o) (retold (both h o.pairs) m) s).0).1;
-    }
-
-pub score_none :
-    (h : List Float → Float) (k : Option Float) (m o : Meaning) (d : ℕ) → Told m d → d ≡ TERM →
-    Scored (opted h k m o) (opted h k m o) zero_score
-score_none h k m o d t e = scored_marked (test h k m o) _ zero_score (scored_none (both h o.pairs) m d t e)
-
 -- from d on the optional scores are as they were
 rescored_same :
     (h : List Float → Float) (qs rs ps : List Pair) (lo d : ℕ) → Rising lo ps → d ≤ lo → (qs ≡ rs) ⊎ (qs ≡ from d rs) →
@@ -180,16 +158,10 @@ first_both :
 first_both h qs [] n = absurd (n refl)
 first_both h qs (p ∷ ps) n = refl
 
--- a score combined by the combiner that is taken where none is asked for
-pub by_plain :
-    {X : Type 0} (taken : X → Tally → Float → Tally) (told : X → Tally → Float) (v w : X) (x : Float) (y : Option Float) (s : Float) →
-    s ≡ combined (taken v) (told v) (x ∷ as_list y) → v ≡ w → s ≡ combined (taken w) (told w) (x ∷ as_list y)
-by_plain taken told v w x y s e i = e ∙ ap (λ k. combined (taken k) (told k) (x ∷ as_list y)) i
-
 -- a score that was made and is now kept
 pub score_made :
     (h : List Float → Float) (k : Option Float) (m n o q : Meaning) (d : ℕ) (x s : Float) (y : Option Float) → k ≡ None →
-    Told m d → (d ≡ TERM → ⊥) → Scored m n x → LookedUp d o q y → s ≡ h (x ∷ as_list y) →
+    Told m d → (d ≡ TERM → ⊥) → Scored m n x → LookedUp d o q y → s ≡ h (x ∷ option_to_list y) →
     Scored (opted h k m o) (opted h (Some s) n q) s
 score_made h k m n o q d x s y z t ne c l e =
     let f : Pair → Float = both h o.pairs in
@@ -199,7 +171,7 @@ score_made h k m n o q d x s y z t ne c l e =
     let beside : Steady (opted h k m o) → Steady o = λ u. optional_steady h k m o (sound u) in
     let value : Steady (opted h k m o) → s ≡ first_score (rescored f m.pairs) =
     λ u.
-    e ∙ ap (λ (v : Float). h (v ∷ as_list y)) (c.tells (below u)) ∙
+    e ∙ ap (λ (v : Float). h (v ∷ option_to_list y)) (c.tells (below u)) ∙
     ap (λ (v : List Float). h (first_score m.pairs ∷ v))
     (sym (l.finds (beside u)) ∙ ap (λ (i : ℕ). scores_of i o.pairs) (t.tells (below u))) ∙
     sym (first_both h o.pairs m.pairs (λ v. ne (t.tells (below u) ∙ v))) in

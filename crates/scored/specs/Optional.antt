@@ -1,8 +1,10 @@
 -- Required documents, whose scores are combined with optional ones.
-use Rattle.std.specs.Prelude.{◌≡◌, ℕ, Bool, true, false, cond, ◌&&◌, ◌⊎◌, List, [], ◌∷◌, ℤ, pos, negsuc, Some, None, Option, ◌==◌, Float}
+use Rattle.std.specs.Prelude.{◌≡◌, ℕ, Bool, true, false, cond, ◌&&◌, ◌⊎◌, List, [], ◌∷◌, Some, None, Option, ◌==◌, Float}
+use Rattle.std.specs.Ordering.{int_eq}
+use Rattle.std.specs.Bool.{beq}
 use Rattle.std.specs.Float.{nan, inf, fin}
 use Rattle.docset.specs.Meaning.{Meaning, lost, is_steady, Pair, Steady, first_score, from}
-use Rattle.combiner.specs.Scores.{as_list}
+use Rattle.std.specs.Option.{option_to_list}
 use Rattle.scored.specs.Rescored.{rescored, retold}
 
 -- the score of an id, if the list has it
@@ -17,28 +19,17 @@ both h qs p = h (p.score ∷ scores_of p.id qs)
 
 -- ---- the meaning
 
-abbrev pub same_bool : Bool → Bool → Bool
-same_bool true b = b
-same_bool false true = false
-same_bool false false = true
-
-abbrev pub same_int : ℤ → ℤ → Bool
-same_int (pos m) (pos n) = m == n
-same_int (pos m) (negsuc n) = false
-same_int (negsuc m) (pos n) = false
-same_int (negsuc m) (negsuc n) = m == n
-
 -- whether two scores are the same one, so that 0.0 and -0.0 differ and what is not a number is itself
 abbrev pub same_float : Float → Float → Bool
 same_float nan nan = true
 same_float nan (inf b) = false
 same_float nan (fin s m e) = false
 same_float (inf a) nan = false
-same_float (inf a) (inf b) = same_bool a b
+same_float (inf a) (inf b) = beq a b
 same_float (inf a) (fin s m e) = false
 same_float (fin s m e) nan = false
 same_float (fin s m e) (inf b) = false
-same_float (fin s m e) (fin t n f) = same_bool s t && (m == n && same_int e f)
+same_float (fin s m e) (fin t n f) = beq s t && (m == n && int_eq e f)
 
 -- a score that was kept, if there is one, is the first
 abbrev pub cached : Option Float → List Pair → Bool
@@ -61,4 +52,4 @@ opted h k m o =
 pub record LookedUp (d : ℕ) (o q : Meaning) (r : Option Float) : Type 0 where
   pub still : Steady o → Steady q
   pub list : Steady o → (q.pairs ≡ o.pairs) ⊎ (q.pairs ≡ from d o.pairs)
-  pub finds : Steady o → scores_of d o.pairs ≡ as_list r
+  pub finds : Steady o → scores_of d o.pairs ≡ option_to_list r

@@ -1,8 +1,7 @@
-ghost use Rattle.std.specs.Prelude.{◌≡◌, not};
-ghost use Rattle.combiner.specs.Scores.{finite, refusal_of};
-ghost use Rattle.scored.specs.Boosts.{boost_means, unless};
+ghost use Rattle.std.specs.Prelude.{◌≡◌};
+ghost use Rattle.combiner.specs.Scores.{refusal_of};
+ghost use Rattle.scored.specs.Boosts.{factor_of, boost_means, unless};
 
-use combiner::score_combiner::is_factor;
 use docset::alive_bitset::AliveBitSet;
 use docset::docset::{DocSet, SeekDangerResult, TERMINATED};
 use docset::refusal::Refusal;
@@ -12,8 +11,8 @@ use docset::scorer::Scorer;
 #[derive(Drop)]
 pub struct BoostScorer<S> {
     underlying: S,
-    boost: f32,
-    refused: bool,
+    // None where the factor was refused.
+    boost: Option<f32>,
 }
 
 impl<S: Scorer> BoostScorer<S> {
@@ -22,16 +21,14 @@ impl<S: Scorer> BoostScorer<S> {
     pub fn new(underlying: S, boost: f32) -> (Option<Refusal>, BoostScorer<S>)
         ensures refuses { result.0 ≡ refusal_of boost }
         ensures below { result.1.underlying ≡ underlying }
-        ensures factor { result.1.boost ≡ boost }
-        ensures empty { result.1.refused ≡ not (finite boost) }
+        ensures factor { result.1.boost ≡ factor_of boost }
     {
-        if is_factor(boost) {
+        if boost.is_finite() {
             (
                 None,
                 BoostScorer {
                     underlying,
-                    boost,
-                    refused: false,
+                    boost: Some(boost),
                 },
             )
         } else {
@@ -39,8 +36,7 @@ impl<S: Scorer> BoostScorer<S> {
                 Some(Refusal::NotFinite),
                 BoostScorer {
                     underlying,
-                    boost,
-                    refused: true,
+                    boost: None,
                 },
             )
         }
@@ -48,92 +44,84 @@ impl<S: Scorer> BoostScorer<S> {
 }
 
 impl<S: Scorer> DocSet for BoostScorer<S> {
-    ghost meaning = { λ b. boost_means b.refused b.boost (S.DocSet.meaning b.underlying) };
+    ghost meaning = { λ b. boost_means b.boost (S.DocSet.meaning b.underlying) };
 
-    ghost hint = { λ b. unless b.refused (S.DocSet.hint b.underlying) };
+    ghost hint = { λ b. unless b.boost (S.DocSet.hint b.underlying) };
 
-    ghost price = { λ b. unless b.refused (S.DocSet.price b.underlying) };
+    ghost price = { λ b. unless b.boost (S.DocSet.price b.underlying) };
 
     fn doc(&self) -> u32 {
-        if self.refused {
-            return TERMINATED;
+        match self.boost {
+            Some(_) => self.underlying.doc(),
+            None => TERMINATED,
         }
-        self.underlying.doc()
     }
 
     fn advance(&mut self) -> u32 {
-        if self.refused {
-            return TERMINATED;
+        match self.boost {
+            Some(_) => self.underlying.advance(),
+            None => TERMINATED,
         }
-        self.underlying.advance()
     }
 
     fn seek(&mut self, target: u32) -> u32 {
-        if self.refused {
-            return TERMINATED;
+        match self.boost {
+            Some(_) => self.underlying.seek(target),
+            None => TERMINATED,
         }
-        self.underlying.seek(target)
     }
 
     fn seek_danger(&mut self, target: u32) -> SeekDangerResult {
-        if self.refused {
-            return SeekDangerResult::SeekLowerBound(TERMINATED);
+        match self.boost {
+            Some(_) => self.underlying.seek_danger(target),
+            None => SeekDangerResult::SeekLowerBound(TERMINATED),
         }
-        self.underlying.seek_danger(target)
     }
 
     fn fill_buffer(&mut self, buffer: &mut [u32; 64]) -> usize {
-        if self.refused {
-            return 0;
+        match self.boost {
+            Some(_) => self.underlying.fill_buffer(buffer),
+            None => 0,
         }
-        self.underlying.fill_buffer(buffer)
     }
 
     fn count(self, alive_bitset: &AliveBitSet) -> u32 {
-        let BoostScorer {
-            underlying,
-            boost: _,
-            refused,
-        } = self;
-        if refused {
-            return 0;
+        let BoostScorer { underlying, boost } = self;
+        match boost {
+            Some(_) => underlying.count(alive_bitset),
+            None => 0,
         }
-        underlying.count(alive_bitset)
     }
 
     fn count_including_deleted(self) -> u32 {
-        let BoostScorer {
-            underlying,
-            boost: _,
-            refused,
-        } = self;
-        if refused {
-            return 0;
+        let BoostScorer { underlying, boost } = self;
+        match boost {
+            Some(_) => underlying.count_including_deleted(),
+            None => 0,
         }
-        underlying.count_including_deleted()
     }
 
     fn size_hint(&self) -> u32 {
-        if self.refused {
-            return 0;
+        match self.boost {
+            Some(_) => self.underlying.size_hint(),
+            None => 0,
         }
-        self.underlying.size_hint()
     }
 
     fn cost(&self) -> u64 {
-        if self.refused {
-            return 0;
+        match self.boost {
+            Some(_) => self.underlying.cost(),
+            None => 0,
         }
-        self.underlying.cost()
     }
 }
 
 impl<S: Scorer> Scorer for BoostScorer<S> {
     // One product, rounded once. Where no document is left it is 0.0, and no product: a negative factor would give -0.0.
     fn score(&mut self) -> f32 {
-        if self.refused || self.underlying.doc() == TERMINATED {
-            return 0.0;
+        match self.boost {
+            Some(boost) if self.underlying.doc() != TERMINATED => self.underlying.score() * boost,
+            _ => 0.0,
         }
-        self.underlying.score() * self.boost
     }
 }

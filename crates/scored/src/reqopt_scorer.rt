@@ -1,5 +1,5 @@
 ghost use Rattle.std.specs.Prelude.{◌≡◌, ◌<◌, None};
-ghost use Rattle.docset.specs.Meaning.{Steady};
+ghost use Rattle.docset.specs.Meaning.{TERM, Steady};
 ghost use Rattle.docset.specs.Calls.{Moved, Sought, Probed, Filled};
 ghost use Rattle.combiner.specs.Scores.{combined};
 ghost use Rattle.scored.specs.Rescored.{retold};
@@ -24,7 +24,7 @@ pub struct RequiredOptionalScorer<R, O, C> {
 
 // The score of an id, if the set has it. The set is sought only where it has not passed the id.
 fn score_of<O: Scorer>(optional: &mut O, doc: u32) -> Option<f32>
-    requires { doc < 2147483647 }
+    requires { doc < TERM }
     ensures { LookedUp doc (O.DocSet.meaning optional.old) (O.DocSet.meaning optional.new) result }
 {
     if optional.doc() > doc {
@@ -43,7 +43,7 @@ impl<R: Scorer, O: Scorer, C: ScoreCombiner> RequiredOptionalScorer<R, O, C> {
         ensures below { result.required ≡ required }
         ensures beside { result.optional ≡ optional }
         ensures unread { result.score_cache ≡ None }
-        ensures list { Steady (O.DocSet.meaning optional) → opted (combined (C.ScoreCombiner.taken C.ScoreCombiner.plain) (C.ScoreCombiner.told C.ScoreCombiner.plain)) result.score_cache (R.DocSet.meaning result.required) (O.DocSet.meaning result.optional) ≡ retold (both (combined (C.ScoreCombiner.taken C.ScoreCombiner.plain) (C.ScoreCombiner.told C.ScoreCombiner.plain)) (O.DocSet.meaning optional).pairs) (R.DocSet.meaning required) }
+        ensures list { Steady (O.DocSet.meaning optional) → ⟦<RequiredOptionalScorer<R, O, C> as DocSet>⟧.meaning result ≡ retold (both (combined (C.ScoreCombiner.taken C.ScoreCombiner.plain) (C.ScoreCombiner.told C.ScoreCombiner.plain)) (O.DocSet.meaning optional).pairs) (R.DocSet.meaning required) }
     {
         RequiredOptionalScorer {
             required,
@@ -66,7 +66,7 @@ impl<R: Scorer, O: Scorer, C: ScoreCombiner> DocSet for RequiredOptionalScorer<R
     }
 
     fn advance(&mut self) -> u32
-        ensures moves { Moved (opted (combined (C.ScoreCombiner.taken C.ScoreCombiner.plain) (C.ScoreCombiner.told C.ScoreCombiner.plain)) self.old.score_cache (R.DocSet.meaning self.old.required) (O.DocSet.meaning self.old.optional)) (opted (combined (C.ScoreCombiner.taken C.ScoreCombiner.plain) (C.ScoreCombiner.told C.ScoreCombiner.plain)) self.new.score_cache (R.DocSet.meaning self.new.required) (O.DocSet.meaning self.new.optional)) result }
+        ensures moves { Moved (⟦<Self as DocSet>⟧.meaning self.old) (⟦<Self as DocSet>⟧.meaning self.new) result }
         ensures unasked { self.new.optional ≡ self.old.optional }
     {
         let doc = self.required.advance();
@@ -75,7 +75,7 @@ impl<R: Scorer, O: Scorer, C: ScoreCombiner> DocSet for RequiredOptionalScorer<R
     }
 
     fn seek(&mut self, target: u32) -> u32
-        ensures moves { Sought target (opted (combined (C.ScoreCombiner.taken C.ScoreCombiner.plain) (C.ScoreCombiner.told C.ScoreCombiner.plain)) self.old.score_cache (R.DocSet.meaning self.old.required) (O.DocSet.meaning self.old.optional)) (opted (combined (C.ScoreCombiner.taken C.ScoreCombiner.plain) (C.ScoreCombiner.told C.ScoreCombiner.plain)) self.new.score_cache (R.DocSet.meaning self.new.required) (O.DocSet.meaning self.new.optional)) result }
+        ensures moves { Sought target (⟦<Self as DocSet>⟧.meaning self.old) (⟦<Self as DocSet>⟧.meaning self.new) result }
         ensures unasked { self.new.optional ≡ self.old.optional }
     {
         let doc = self.required.seek(target);
@@ -84,7 +84,7 @@ impl<R: Scorer, O: Scorer, C: ScoreCombiner> DocSet for RequiredOptionalScorer<R
     }
 
     fn seek_danger(&mut self, target: u32) -> SeekDangerResult
-        ensures moves { Probed target (opted (combined (C.ScoreCombiner.taken C.ScoreCombiner.plain) (C.ScoreCombiner.told C.ScoreCombiner.plain)) self.old.score_cache (R.DocSet.meaning self.old.required) (O.DocSet.meaning self.old.optional)) (opted (combined (C.ScoreCombiner.taken C.ScoreCombiner.plain) (C.ScoreCombiner.told C.ScoreCombiner.plain)) self.new.score_cache (R.DocSet.meaning self.new.required) (O.DocSet.meaning self.new.optional)) result }
+        ensures moves { Probed target (⟦<Self as DocSet>⟧.meaning self.old) (⟦<Self as DocSet>⟧.meaning self.new) result }
         ensures unasked { self.new.optional ≡ self.old.optional }
     {
         let answer = self.required.seek_danger(target);
@@ -93,7 +93,7 @@ impl<R: Scorer, O: Scorer, C: ScoreCombiner> DocSet for RequiredOptionalScorer<R
     }
 
     fn fill_buffer(&mut self, buffer: &mut [u32; 64]) -> usize
-        ensures moves { Filled (opted (combined (C.ScoreCombiner.taken C.ScoreCombiner.plain) (C.ScoreCombiner.told C.ScoreCombiner.plain)) self.old.score_cache (R.DocSet.meaning self.old.required) (O.DocSet.meaning self.old.optional)) (opted (combined (C.ScoreCombiner.taken C.ScoreCombiner.plain) (C.ScoreCombiner.told C.ScoreCombiner.plain)) self.new.score_cache (R.DocSet.meaning self.new.required) (O.DocSet.meaning self.new.optional)) buffer.old buffer.new result }
+        ensures moves { Filled (⟦<Self as DocSet>⟧.meaning self.old) (⟦<Self as DocSet>⟧.meaning self.new) buffer.old buffer.new result }
         ensures unasked { self.new.optional ≡ self.old.optional }
     {
         let filled = self.required.fill_buffer(buffer);
@@ -132,8 +132,7 @@ impl<R: Scorer, O: Scorer, C: ScoreCombiner> Scorer for RequiredOptionalScorer<R
         }
         let first = self.required.score();
         let second = score_of(&mut self.optional, doc);
-        let combiner = C::usual();
-        let score = combine_two(&combiner, first, second);
+        let score = combine_two(&C::default(), first, second);
         self.score_cache = Some(score);
         score
     }

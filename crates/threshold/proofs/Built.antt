@@ -1,9 +1,8 @@
 -- A threshold as it is built.
-use Rattle.std.proofs.Common.{◌≡◌, ℕ, suc, ◌+◌, ◌<◌, ◌≤◌, Bool, cond, eqb, ltb, List, [], length, Some, None, sym, ap, ◌∙◌, subst, ⊎_elim, arith}
+use Rattle.std.proofs.Common.{◌≡◌, ℕ, suc, ◌+◌, ◌<◌, ◌≤◌, Bool, List, [], length, sym, ap, ◌∙◌, subst, ⊎_elim, arith}
 use lib.Ieee.{Float}
-use Rattle.std.proofs.lemmas.Bool.{lt-ltb, le-ltb, eq-eqb, ne_eqb, cases_lt, cond-true, cond-false}
+use Rattle.std.proofs.lemmas.Bool.{cases_lt}
 use Rattle.docset.specs.Meaning.{Meaning, TERM, Steady, Rising, calm, from}
-use Rattle.docset.specs.declared.refusal.Refusal.TheVariants.{TooManySets, MinimumZero}
 use Rattle.combiner.specs.declared.score_combiner.Tally.{Tally}
 use Rattle.bank.specs.Places.{at}
 use Rattle.heap.specs.declared.order.Entry.{Entry}
@@ -14,23 +13,10 @@ use Rattle.live.proofs.Keeps.{steady_at, steady_all, rising_all, length_kept, at
 use Rattle.live.proofs.Passed.{at_passed_sets}
 use Rattle.live.proofs.Thresholds.{threshold_alike}
 use Rattle.threshold.specs.Entries.{weight, Ready}
-use Rattle.threshold.specs.State.{refusal_of, means, Comes}
+use Rattle.threshold.specs.State.{means, Comes}
 use Rattle.threshold.proofs.Sums.{each_zero}
+use Rattle.threshold.proofs.Groups.{Loading, loaded}
 use Rattle.threshold.proofs.States.{ready_fit, is_calm, ended, few_none, comes_calm}
-
--- ---- refusals
-
-pub refused_many : (n least : ℕ) → 32 < n → refusal_of n least ≡ Some TooManySets
-refused_many n least l = cond-true (ltb 32 n) (Some TooManySets) (cond (eqb least 0) (Some MinimumZero) None) (lt-ltb 32 n l)
-
-not_many : (n least : ℕ) → n ≤ 32 → refusal_of n least ≡ cond (eqb least 0) (Some MinimumZero) None
-not_many n least l = cond-false (ltb 32 n) (Some TooManySets) (cond (eqb least 0) (Some MinimumZero) None) (le-ltb 32 n l)
-
-pub refused_zero : (n least : ℕ) → n ≤ 32 → least ≡ 0 → refusal_of n least ≡ Some MinimumZero
-refused_zero n least l e = not_many n least l ∙ cond-true (eqb least 0) (Some MinimumZero) None (eq-eqb least 0 e)
-
-pub accepted : (n least : ℕ) → n ≤ 32 → (least ≡ 0 → ⊥) → refusal_of n least ≡ None
-accepted n least l e = not_many n least l ∙ cond-false (eqb least 0) (Some MinimumZero) None (ne_eqb least 0 e)
 
 -- ---- a refused one
 
@@ -48,36 +34,30 @@ waiting_calm least step tell x P E room y =
 
 -- ---- one over the sets P, of which K are kept
 
-pub record Alike (P K : List Meaning) : Type 0 where
-  pub places : (k : ℕ) → at K k ≡ at P k
-  pub steady : AllSteady K
+pub alike : (bs : List Bool) (P R : List Meaning) (n : ℕ) → length bs ≡ 32 → length P ≤ n → n ≤ 32 → R ≡ P → ((k : ℕ) → k < 32 → at (kept bs P) k ≡ at P k) → (k : ℕ) → at (kept bs R) k ≡ at P k
+alike bs P R n len le most q h k = ⊎_elim
+    (λ l. ap (λ X. at (kept bs X) k) q ∙ h k l)
+    (λ l. at_outside (kept bs R) k (let a = length_kept bs R in omega arith) ∙ sym (at_outside P k (omega arith)))
+    (cases_lt k 32)
 
-pub alike : (bs : List Bool) (P R : List Meaning) → length bs ≡ 32 → length P ≤ 32 → R ≡ P → AllSteady P → ((k : ℕ) → k < 32 → at (kept bs P) k ≡ at P k) → Alike P (kept bs R)
-alike bs P R n le q s h = record { places = e; steady = steady_all (kept bs R) (λ k l. subst Steady (sym (e k)) (steady_at P k s)) }
-  where
-    e : (k : ℕ) → at (kept bs R) k ≡ at P k
-    e k = ⊎_elim
-        (λ l. ap (λ X. at (kept bs X) k) q ∙ h k l)
-        (λ l. at_outside (kept bs R) k (let a = length_kept bs R in omega arith) ∙ sym (at_outside P k (omega arith)))
-        (cases_lt k 32)
-
-pub alike_outside : (P K : List Meaning) (n : ℕ) → Alike P K → length P ≤ n → (k : ℕ) → n ≤ k → at K k ≡ calm []
-alike_outside P K n a le k l = a.places k ∙ at_outside P k (omega arith)
+-- all entries of K
+pub all_loaded : (P K : List Meaning) (E : List Entry) (n i : ℕ) → ((k : ℕ) → at K k ≡ at P k) → AllSteady P → length P ≤ n → n ≤ i → Loading K E i → Ready K E
+all_loaded P K E n i e s le l v = loaded K E i v (steady_all K (λ k q. subst Steady (sym (e k)) (steady_at P k s))) (λ k q. e k ∙ at_outside P k (omega arith))
 
 pub built_waiting :
     (least : ℕ) (step : Tally → Float → Tally) (tell : Tally → Float) (x : Float) (P K : List Meaning) (E : List Entry) (room : ℕ) →
-    Alike P K → Ready K E → length E < least → means least step tell TERM x E K room ≡ calm (threshold_list least step tell P)
+    ((k : ℕ) → at K k ≡ at P k) → Ready K E → length E < least → means least step tell TERM x E K room ≡ calm (threshold_list least step tell P)
 built_waiting least step tell x P K E room a y l =
-    waiting_calm least step tell x K E room y ∙ ap calm (sym (few_none least step tell K E y l) ∙ threshold_alike least step tell K P a.places)
+    waiting_calm least step tell x K E room y ∙ ap calm (sym (few_none least step tell K E y l) ∙ threshold_alike least step tell K P a)
 
 pub built_standing :
     (least : ℕ) (step : Tally → Float → Tally) (tell : Tally → Float) (P K Q : List Meaning) (E F : List Entry) (r : ℕ) (x : Float) (room : ℕ) →
-    Alike P K → Ready K E → Comes least step tell K Q E F r x → means least step tell r x F Q room ≡ calm (threshold_list least step tell P)
+    ((k : ℕ) → at K k ≡ at P k) → Ready K E → Comes least step tell K Q E F r x → means least step tell r x F Q room ≡ calm (threshold_list least step tell P)
 built_standing least step tell P K Q E F r x room a y c =
-    comes_calm least step tell K Q E F r x room c y ∙ ap calm (threshold_alike least step tell K P a.places)
+    comes_calm least step tell K Q E F r x room c y ∙ ap calm (threshold_alike least step tell K P a)
 
 pub built_reads :
     (least : ℕ) (step : Tally → Float → Tally) (tell : Tally → Float) (P K Q : List Meaning) (E F : List Entry) (r : ℕ) (x : Float) →
-    Alike P K → Ready K E → Comes least step tell K Q E F r x → (k : ℕ) → at Q k ≡ at (passed (suc r) P) k
+    ((k : ℕ) → at K k ≡ at P k) → Ready K E → Comes least step tell K Q E F r x → (k : ℕ) → at Q k ≡ at (passed (suc r) P) k
 built_reads least step tell P K Q E F r x a y c k =
-    ap (λ X. at X k) (c.reads y) ∙ at_passed_sets (suc r) K k ∙ ap (λ m. calm (from (suc r) m.pairs)) (a.places k) ∙ sym (at_passed_sets (suc r) P k)
+    ap (λ X. at X k) (c.reads y) ∙ at_passed_sets (suc r) K k ∙ ap (λ m. calm (from (suc r) m.pairs)) (a k) ∙ sym (at_passed_sets (suc r) P k)

@@ -1,8 +1,7 @@
 -- One entry read, one id gathered, and the next document of a threshold.
-use Rattle.std.proofs.Common.{◌≡◌, ℕ, suc, ◌+◌, ◌-◌, ◌<◌, ◌≤◌, min, Bool, true, false, cond, eqb, ltb, List, [], ◌∷◌, length, get_or, take, drop, set, sum_by, sym, refl, ap, ◌∙◌, subst, ⊎_elim, arith, length-append, get_or-drop, below_more}
+use Rattle.std.proofs.Common.{◌≡◌, ℕ, suc, ◌+◌, ◌<◌, ◌≤◌, min, Bool, true, false, cond, eqb, ltb, List, [], ◌∷◌, length, drop, set, sum_by, sym, refl, ap, ◌∙◌, subst, ⊎_elim, arith, length-append, get_or-drop, below_more, zero-add, add-one}
 use lib.Ieee.{Float}
 use Rattle.std.proofs.lemmas.List.Sums.{sum_by-cons}
-use Rattle.std.proofs.lemmas.List.Sorted.{sum_by-IsPermutation}
 use Rattle.std.proofs.lemmas.Bool.{lt-ltb, le-ltb, eqb-true, cases_lt}
 use Rattle.docset.specs.Meaning.{Meaning, Pair, TERM, Steady, Rising, calm, rest, first_id, first_score}
 use Rattle.docset.specs.Calls.{Told}
@@ -12,8 +11,6 @@ use Rattle.combiner.specs.Scores.{start}
 use Rattle.combiner.specs.Cells.{none, some, puts, entry}
 use Rattle.bank.specs.Places.{at}
 use Rattle.heap.specs.declared.order.Entry.{Entry}
-use Rattle.heap.specs.declared.heap.Top.TheVariants.{First}
-use Rattle.heap.specs.Heaps.{Held, Pushed, Popped, Replaced}
 use Rattle.live.specs.Sets.{empty, passed, lowest_of, AllSteady, AllRising}
 use Rattle.live.specs.Kept.{none_left, Stepped}
 use Rattle.live.specs.Lists.{scores_in, scores_at, united, sifted, threshold_list}
@@ -21,62 +18,10 @@ use Rattle.live.proofs.Keeps.{set_at, steady_at, rising_all}
 use Rattle.live.proofs.Scores.{scores_low, at_low}
 use Rattle.live.proofs.Passed.{rising_at, steady_set, rising_set, lowest_step_up, passed_twice, passed_high, passed_none, lowest_passed, passed_step}
 use Rattle.live.proofs.Thresholds.{scores_step, sifted_none, threshold_step, threshold_none}
-use Rattle.threshold.specs.Entries.{entry_of, earlier, no_id, Heaped, weight, weights, Ready, Taken, Gathered}
-use Rattle.threshold.specs.State.{standing, on, Comes}
+use Rattle.threshold.specs.Entries.{entry_of, weight, weights, Ready, Taken, Gathered}
+use Rattle.threshold.specs.State.{standing, Comes}
 use Rattle.threshold.proofs.Sums.{weights_set, weights_drop, each_zero}
-use Rattle.threshold.proofs.Tops.{as_heap, as_stack, Least, least_before, least_lowest, none_top, none_lowest}
-
--- ---- the heap after a step
-
-held : (xs : List Entry) (n : ℕ) → Heaped xs n → 0 < n → Held xs n
-held xs n h lo = (lo, let a = h.size in let b = h.few in omega arith)
-
-pub popped_sum : (xs ys : List Entry) (n : ℕ) (e : Entry) → Heaped xs n → 0 < n → get_or xs 0 e ≡ e → Popped earlier First xs n ys → (f : Entry → ℕ) → sum_by f (take (n - 1) ys) + f e ≡ sum_by f (take n xs)
-popped_sum xs ys n e h lo q p f =
-    let s = sum_by-IsPermutation f (take n xs) (get_or xs 0 e ∷ take (n - 1) ys) (p.others (held xs n h lo) e) in
-    let c = sum_by-cons f (get_or xs 0 e) (take (n - 1) ys) in
-    let g = ap f q in
-    omega arith
-
-pub popped_heap : (xs ys : List Entry) (n : ℕ) (e : Entry) → Heaped xs n → 0 < n → get_or xs 0 e ≡ e → length ys ≡ length xs → Popped earlier First xs n ys → Heaped ys (n - 1)
-popped_heap xs ys n e h lo q l p = record {
-  size = l ∙ h.size;
-  few = let a = h.few in omega arith;
-  heap = as_stack ys (n - 1) (p.heaped (held xs n h lo) (as_heap xs n (held xs n h lo).1 h.heap));
-  ids = let a = popped_sum xs ys n e h lo q p no_id in let b = h.ids in omega arith;
-}
-
-pub replaced_sum : (xs ys : List Entry) (n : ℕ) (e x : Entry) → Heaped xs n → 0 < n → get_or xs 0 e ≡ e → Replaced earlier First x xs n ys → (f : Entry → ℕ) → sum_by f (take n ys) + f e ≡ sum_by f (take n xs) + f x
-replaced_sum xs ys n e x h lo q p f =
-    let s = sum_by-IsPermutation f (x ∷ take n xs) (get_or xs 0 e ∷ take n ys) (p.same (held xs n h lo) e) in
-    let c = sum_by-cons f (get_or xs 0 e) (take n ys) in
-    let d = sum_by-cons f x (take n xs) in
-    let g = ap f q in
-    omega arith
-
-no_id_none : (x : Entry) → x.id < TERM → no_id x ≡ 0
-no_id_none x l = let t = lt-ltb x.id TERM l in rw t
-
-pub replaced_heap : (xs ys : List Entry) (n : ℕ) (e x : Entry) → Heaped xs n → 0 < n → get_or xs 0 e ≡ e → x.id < TERM → length ys ≡ length xs → Replaced earlier First x xs n ys → Heaped ys n
-replaced_heap xs ys n e x h lo q u l p = record {
-  size = l ∙ h.size;
-  few = h.few;
-  heap = as_stack ys n (p.heaped (held xs n h lo) (as_heap xs n (held xs n h lo).1 h.heap));
-  ids = let a = replaced_sum xs ys n e x h lo q p no_id in let b = h.ids in let c = no_id_none x u in omega arith;
-}
-
-pub pushed_sum : (xs ys : List Entry) (n : ℕ) (x : Entry) (b : Bool) → n < length xs → Pushed earlier First x xs n ys b → (f : Entry → ℕ) → sum_by f (take (n + 1) ys) ≡ f x + sum_by f (take n xs)
-pushed_sum xs ys n x b l p f = sum_by-IsPermutation f (x ∷ take n xs) (take (n + 1) ys) (p.same l) ∙ sum_by-cons f x (take n xs)
-
-pub pushed_heap : (xs ys : List Entry) (n : ℕ) (x : Entry) (b : Bool) → Heaped xs n → n < 32 → x.id < TERM → length ys ≡ length xs → Pushed earlier First x xs n ys b → Heaped ys (n + 1)
-pushed_heap xs ys n x b h lt u l p =
-    let s : n < length xs = let a = h.size in omega arith in
-    record {
-      size = l ∙ h.size;
-      few = omega arith;
-      heap = as_stack ys (n + 1) (p.heaped s (as_heap xs n (omega arith) h.heap));
-      ids = let a = pushed_sum xs ys n x b s p no_id in let c = h.ids in let d = no_id_none x u in omega arith;
-    }
+use Rattle.threshold.proofs.Tops.{Least, least_before, least_lowest, none_top, none_lowest}
 
 -- ---- one entry read
 
@@ -115,16 +60,13 @@ taken_by step e P K Q E F t u x r least same alike others v others2 q sums = rec
     steady = subst AllSteady (sym (moves y)) (steady_set P k (calm (rest (at P k).pairs)) y.steady refl);
     rises = subst AllRising (sym (moves y)) (rising_set P k (calm (rest (at P k).pairs)) y.rises (up y));
     counts = λ f.
-        let a = weights_set f 0 k P (calm (rest (at P k).pairs)) (least y).inside in
-        let z : 0 + k ≡ k = omega arith in
-        let G : ℕ → Type 0 = λ j. weights f 0 (set P k (calm (rest (at P k).pairs))) + weight f j (at P k) ≡ weights f 0 P + weight f j (calm (rest (at P k).pairs)) in
-        let b = subst G z a in
+        let b = rw zero-add at (weights_set f 0 k P (calm (rest (at P k).pairs)) (least y).inside) in
         let c = weight_top f P e (least y) in
         let d = weight_coming f k (rest (at P k).pairs) (up y) ∙ ap (coming f k) (sym (tells y)) in
         let s = sums f in
         let w = y.counts f in
         let m = ap (weights f 0) (moves y) in
-        join (sum_by f F) (f e) (sum_by f E) (coming f k r) (weights f 0 P) (weights f 0 Q) _ _ _ s w m b c d;
+        omega arith;
   };
   moves = moves;
   takes = λ y. q ∙ alike (steady_at P k y.steady) t;
@@ -132,9 +74,6 @@ taken_by step e P K Q E F t u x r least same alike others v others2 q sums = rec
   where
     k : ℕ
     k = e.place
-
-    join : (a b c d g h i j l : ℕ) → a + b ≡ c + d → c ≡ g → h ≡ i → i + j ≡ g + l → j ≡ b → l ≡ d → a ≡ h
-    join a b c d g h i j l p1 p2 p3 p4 p5 p6 = omega arith
 
     first_same : Ready P E → K ≡ P
     first_same y = others ∙ ap (set P e.place) (same (steady_at P e.place y.steady)) ∙ sym (set_at P e.place)
@@ -178,11 +117,7 @@ few_in d k m r = go m.pairs r
 pub few_scores : (d k : ℕ) (ms : List Meaning) → AllRising ms → length (scores_at d ms) ≤ weights (λ x. 1) k ms
 few_scores d k [] r = omega arith
 few_scores d k (m ∷ ms) r =
-    let a = length-append (scores_in d m.pairs) (scores_at d ms) in
-    sum _ _ _ _ _ a (few_in d k m r.0) (few_scores d (suc k) ms r.1)
-  where
-    sum : (x a b u v : ℕ) → x ≡ a + b → a ≤ u → b ≤ v → x ≤ u + v
-    sum x a b u v e p q = omega arith
+    omega (arith, length-append (scores_in d m.pairs) (scores_at d ms), few_in d k m r.0, few_scores d (suc k) ms r.1)
 
 length_sum : (es : List Entry) → sum_by (λ x. 1) es ≡ length es
 length_sum [] = refl
@@ -285,9 +220,6 @@ pub record Searching (least : ℕ) (step : Tally → Float → Tally) (tell : Ta
   pub reads : Ready P E → (h : ℕ) → lowest_of Q ≤ h → passed (suc h) Q ≡ passed (suc h) P
   pub list : Ready P E → threshold_list least step tell Q ≡ threshold_list least step tell P
 
-pub searching_start : (least : ℕ) (step : Tally → Float → Tally) (tell : Tally → Float) (P : List Meaning) (E : List Entry) → Searching least step tell P P E E
-searching_start least step tell P E = record { ready = λ y. y; reads = λ y h l. refl; list = λ y. refl }
-
 pub sift_few : (least : ℕ) (step : Tally → Float → Tally) (P : List Meaning) (d : ℕ) → length (scores_at d P) < least → sifted least step P d ≡ none
 sift_few least step P d l = let t = lt-ltb (length (scores_at d P)) least l in rw t
 
@@ -373,10 +305,7 @@ pub record Loading (P : List Meaning) (E : List Entry) (i : ℕ) : Type 0 where
   pub counts : AllSteady P → (f : Entry → ℕ) → sum_by f E + weights f i (drop i P) ≡ weights f 0 P
 
 pub loading_none : (P : List Meaning) → Loading P [] 0
-loading_none P = record { rises = λ s k l. absurd (omega arith); counts = λ s f. zero_left (weights f 0 P) }
-  where
-    zero_left : (a : ℕ) → 0 + a ≡ a
-    zero_left a = omega arith
+loading_none P = record { rises = λ s k l. absurd (omega arith); counts = λ s f. zero-add (weights f 0 P) }
 
 loading_by :
     (P : List Meaning) (E F : List Entry) (i d : ℕ) → Told (at P i) d → Loading P E i →
@@ -384,25 +313,18 @@ loading_by :
 loading_by P E F i d t v h = record {
   rises = λ s. below_more _ _ (v.rises s) (t.rises (steady_known (at P i).mark (steady_at P i s)));
   counts = λ s f.
-      let q : i + 1 ≡ suc i = omega arith in
-      let z : 0 + i ≡ i = omega arith in
-      let G : ℕ → Type 0 = λ j. weights f j (drop i P) ≡ weight f j (at P i) + weights f (suc j) (drop (suc i) P) in
-      let a = subst G z (weights_drop f 0 i P) in
-      let H : ℕ → Type 0 = λ j. sum_by f F + weights f j (drop j P) ≡ weights f 0 P in
-      subst H (sym q) (join _ _ _ _ _ _ a (h (steady_at P i s) f) (v.counts s f));
+      rw add-one (
+      let a = rw zero-add at (weights_drop f 0 i P) in
+      let b = h (steady_at P i s) f in
+      let c = v.counts s f in
+      omega arith);
 }
-  where
-    join : (a b c d e g : ℕ) → a ≡ b + c → d ≡ b + e → e + a ≡ g → d + c ≡ g
-    join a b c d e g p q r = omega arith
 
 pub loading_ended : (P : List Meaning) (E : List Entry) (i d : ℕ) → Told (at P i) d → d ≡ TERM → Loading P E i → Loading P E (i + 1)
 loading_ended P E i d t e v = loading_by P E E i d t v (λ s f.
     let q : (at P i).pairs ≡ [] = ended 0 (at P i).pairs (t.rises (steady_known (at P i).mark s)) (sym (t.tells s) ∙ e) in
     let w : weight f i (at P i) ≡ 0 = ap (λ ps. cond (none_left ps) 0 (f (record { id = first_id ps; place = i }))) q in
-    zero_left (weight f i (at P i)) (sum_by f E) w)
-  where
-    zero_left : (a b : ℕ) → a ≡ 0 → b ≡ a + b
-    zero_left a b e = omega arith
+    omega arith)
 
 some_left : (ps : List Pair) → first_id ps < TERM → none_left ps ≡ false
 some_left [] l = absurd (omega arith)
@@ -417,9 +339,6 @@ loading_more P E F i d t l h v = loading_by P E F i d t v (λ s f.
     h f ∙ ap (λ (x : ℕ). f (record { id = x; place = i }) + sum_by f E) q
     ∙ ap (λ (c : Bool). cond c 0 (f (entry_of i (at P i))) + sum_by f E) (sym b))
 
-at_drop : (j m : ℕ) (X : List Meaning) → at (drop j X) m ≡ at X (j + m)
-at_drop j m X = get_or-drop j X m (calm [])
-
 pub loaded :
     (P : List Meaning) (E : List Entry) (i : ℕ) → Loading P E i → AllSteady P → ((k : ℕ) → i ≤ k → at P k ≡ empty) → Ready P E
 loaded P E i v s h = record {
@@ -429,10 +348,4 @@ loaded P E i v s h = record {
 }
   where
     behind : (f : Entry → ℕ) (j : ℕ) (X : List Meaning) → ((k : ℕ) → j ≤ k → at X k ≡ empty) → weights f j (drop j X) ≡ 0
-    behind f j X e = each_zero f j (drop j X) (λ m l. ap (weight f (j + m)) (at_drop j m X ∙ e (j + m) (omega arith)))
-
-pub heaped_none : (xs : List Entry) → length xs ≡ 32 → Heaped xs 0
-heaped_none xs l = record { size = l; few = omega arith; heap = λ p k w. absurd (let a = w.2 in omega arith); ids = refl }
-
-pub on_one : (doc : ℕ) → doc < TERM → on doc false ≡ 1
-on_one doc l = let t = lt-ltb doc TERM l in rw t
+    behind f j X e = each_zero f j (drop j X) (λ m l. ap (weight f (j + m)) (get_or-drop j X m (calm []) ∙ e (j + m) (omega arith)))

@@ -1,3 +1,4 @@
+pub mod Chained
 pub mod Sums
 pub mod Tops
 pub mod Groups

@@ -179,13 +179,13 @@ pub comes_calm :
     Comes least step tell P Q E F r x → Ready P E → means least step tell r x F Q room ≡ calm (threshold_list least step tell P)
 comes_calm least step tell P Q E F r x room c y = is_calm least step tell r x F Q room (comes_fit least step tell P Q E F r x c y) ∙ ap calm (c.list y)
 
-module _ (least : ℕ) (step : Tally → Float → Tally) (tell : Tally → Float) (doc : ℕ) (x : Float) (E : List Entry) (P : List Meaning) (unread : Bool) (len old : ℕ)
-    (r : ℕ) (z : Float) (F : List Entry) (Q : List Meaning) (left new : ℕ) where
+module _ (least : ℕ) (step : Tally → Float → Tally) (tell : Tally → Float) (doc : ℕ) (x : Float) (E : List Entry) (P : List Meaning) (unread : Bool) (old : ℕ)
+    (r : ℕ) (z : Float) (F : List Entry) (Q : List Meaning) (new : ℕ) where
   pub moved_next :
-      r ≤ TERM → length E ≡ len → (unread ≡ true → (doc ≡ TERM) × (len < least)) → (doc < TERM) ⊎ (unread ≡ true) →
-      on r false + (left + new) ≤ len + old → total Q ≤ new → Comes least step tell P Q E F r z →
-      Moved (means least step tell doc x E P (on doc unread + (len + old))) (means least step tell r z F Q (on r false + (left + new))) r
-  moved_next le size waits goes pays tot c = record {
+      r ≤ TERM → (unread ≡ true → (doc ≡ TERM) × (length E < least)) → (doc < TERM) ⊎ (unread ≡ true) →
+      on r false + new ≤ old → total Q ≤ new → Comes least step tell P Q E F r z →
+      Moved (means least step tell doc x E P (on doc unread + old)) (means least step tell r z F Q (on r false + new)) r
+  moved_next le waits goes pays tot c = record {
     an_id = le;
     shrinks = ⊎_elim (λ e. shorter e) (λ e. let a = lost_m e in let b = small_n in let o = on_going doc unread goes in omega arith) (cases_Bool (fit doc P E));
     drops = ⊎_elim {C = (length n.pairs < length m.pairs) ⊎ (r ≡ TERM)}
@@ -201,22 +201,22 @@ module _ (least : ℕ) (step : Tally → Float → Tally) (tell : Tally → Floa
   }
     where
       m : Meaning
-      m = means least step tell doc x E P (on doc unread + (len + old))
+      m = means least step tell doc x E P (on doc unread + old)
 
       n : Meaning
-      n = means least step tell r z F Q (on r false + (left + new))
+      n = means least step tell r z F Q (on r false + new)
 
-      steady_m : Steady (means least step tell doc x E P (on doc unread + (len + old))) → fit doc P E ≡ true
-      steady_m = steady_fit least step tell doc x E P (on doc unread + (len + old))
+      steady_m : Steady (means least step tell doc x E P (on doc unread + old)) → fit doc P E ≡ true
+      steady_m = steady_fit least step tell doc x E P (on doc unread + old)
 
-      calm_m : fit doc P E ≡ true → means least step tell doc x E P (on doc unread + (len + old)) ≡ calm (standing least step tell doc x P)
-      calm_m = is_calm least step tell doc x E P (on doc unread + (len + old))
+      calm_m : fit doc P E ≡ true → means least step tell doc x E P (on doc unread + old) ≡ calm (standing least step tell doc x P)
+      calm_m = is_calm least step tell doc x E P (on doc unread + old)
 
-      lost_m : fit doc P E ≡ false → length (means least step tell doc x E P (on doc unread + (len + old))).pairs ≡ on doc unread + (len + old)
-      lost_m = lost_length least step tell doc x E P (on doc unread + (len + old))
+      lost_m : fit doc P E ≡ false → length (means least step tell doc x E P (on doc unread + old)).pairs ≡ on doc unread + old
+      lost_m = lost_length least step tell doc x E P (on doc unread + old)
 
-      small_n : length (means least step tell r z F Q (on r false + (left + new))).pairs ≤ on r false + (left + new)
-      small_n = small least step tell r z F Q (on r false + (left + new)) false (left + new) refl (omega arith)
+      small_n : length (means least step tell r z F Q (on r false + new)).pairs ≤ on r false + new
+      small_n = small least step tell r z F Q (on r false + new) false new refl tot
 
       list : fit doc P E ≡ true → threshold_list least step tell P ≡ rest (standing least step tell doc x P)
       list e = ⊎_elim {C = threshold_list least step tell P ≡ rest (standing least step tell doc x P)}
@@ -224,15 +224,15 @@ module _ (least : ℕ) (step : Tally → Float → Tally) (tell : Tally → Floa
           (λ u. few_none least step tell P E (fit_ready doc P E e).0 (let a = (waits u).1 in omega arith) ∙ ap rest (sym (ended least step tell doc x P (let a = (waits u).0 in omega arith))))
           goes
 
-      becomes : fit doc P E ≡ true → means least step tell r z F Q (on r false + (left + new)) ≡ calm (rest (means least step tell doc x E P (on doc unread + (len + old))).pairs)
-      becomes e = comes_calm least step tell P Q E F r z (on r false + (left + new)) c (fit_ready doc P E e).0 ∙ ap calm (list e) ∙ ap (λ q. calm (rest q.pairs)) (sym (calm_m e))
+      becomes : fit doc P E ≡ true → means least step tell r z F Q (on r false + new) ≡ calm (rest (means least step tell doc x E P (on doc unread + old)).pairs)
+      becomes e = comes_calm least step tell P Q E F r z (on r false + new) c (fit_ready doc P E e).0 ∙ ap calm (list e) ∙ ap (λ q. calm (rest q.pairs)) (sym (calm_m e))
 
-      tells : fit doc P E ≡ true → r ≡ first_id (rest (means least step tell doc x E P (on doc unread + (len + old))).pairs)
+      tells : fit doc P E ≡ true → r ≡ first_id (rest (means least step tell doc x E P (on doc unread + old)).pairs)
       tells e =
-          first_is least step tell r z F Q (on r false + (left + new)) le (ap (λ q. q.mark) (becomes e)) ∙ ap (λ q. first_id q.pairs) (becomes e)
+          first_is least step tell r z F Q (on r false + new) le (ap (λ q. q.mark) (becomes e)) ∙ ap (λ q. first_id q.pairs) (becomes e)
 
-      shorter : fit doc P E ≡ true → length (means least step tell r z F Q (on r false + (left + new))).pairs ≤ length (means least step tell doc x E P (on doc unread + (len + old))).pairs
-      shorter e = let a = ap (λ q. length q.pairs) (becomes e) in let b = length_rest (means least step tell doc x E P (on doc unread + (len + old))).pairs in omega arith
+      shorter : fit doc P E ≡ true → length (means least step tell r z F Q (on r false + new)).pairs ≤ length (means least step tell doc x E P (on doc unread + old)).pairs
+      shorter e = let a = ap (λ q. length q.pairs) (becomes e) in let b = length_rest (means least step tell doc x E P (on doc unread + old)).pairs in omega arith
 
 -- ---- how far the sets are read
 

@@ -1,5 +1,6 @@
 -- Sums over the entries of a heap, and over the sets that they belong to.
-use Rattle.std.proofs.Common.{◌≡◌, ℕ, zero, suc, ◌+◌, ◌<◌, Bool, true, false, cond, ◌&&◌, ◌||◌, eqb, List, [], ◌∷◌, length, drop, set, sum_by, sym, refl, ap, ◌∙◌, subst, ⊎_elim, arith}
+use Rattle.std.proofs.Common.{◌≡◌, ℕ, zero, suc, ◌+◌, ◌<◌, Bool, true, false, cond, ◌&&◌, ◌||◌, eqb, List, [], ◌∷◌, length, drop, set, sum_by, sym, refl, ap, ◌∙◌, ⊎_elim, arith}
+use Rattle.std.proofs.Math.Nat.{add-zero, add-suc, suc-add}
 use Rattle.std.proofs.lemmas.List.Sums.{sum_by-cons}
 use Rattle.std.proofs.lemmas.Bool.{eqb-true, eq-eqb, and_parts, and_from, or_parts, cases_Bool, both_ways}
 use Rattle.docset.specs.Meaning.{Meaning}
@@ -15,59 +16,28 @@ pub weights_set :
     (f : Entry → ℕ) (k i : ℕ) (ms : List Meaning) (m : Meaning) → i < length ms →
     weights f k (set ms i m) + weight f (k + i) (at ms i) ≡ weights f k ms + weight f (k + i) m
 weights_set f k i [] m l = absurd (omega arith)
-weights_set f k zero (x ∷ ms) m l =
-    let F : ℕ → Type 0 = λ j. (weight f k m + weights f (suc k) ms) + weight f j x ≡ (weight f k x + weights f (suc k) ms) + weight f j m in
-    let q : k ≡ k + 0 = omega arith in
-    subst F q (swap (weight f k m) (weights f (suc k) ms) (weight f k x))
-  where
-    swap : (a b c : ℕ) → (a + b) + c ≡ (c + b) + a
-    swap a b c = omega arith
-weights_set f k (suc i) (x ∷ ms) m l =
-    let F : ℕ → Type 0 = λ j. (weight f k x + weights f (suc k) (set ms i m)) + weight f j (at ms i) ≡ (weight f k x + weights f (suc k) ms) + weight f j m in
-    let q : suc k + i ≡ k + suc i = omega arith in
-    subst F q (more (weight f k x) _ _ _ _ (weights_set f (suc k) i ms m (omega arith)))
-  where
-    more : (a b c d e : ℕ) → b + c ≡ d + e → (a + b) + c ≡ (a + d) + e
-    more a b c d e h = omega arith
+weights_set f k zero (x ∷ ms) m l = rw add-zero (omega arith)
+weights_set f k (suc i) (x ∷ ms) m l = rw add-suc (omega (arith, rw suc-add at (weights_set f (suc k) i ms m (omega arith))))
 
 -- nothing in all, nothing of each
 pub zero_each : (f : Entry → ℕ) (k : ℕ) (ms : List Meaning) → weights f k ms ≡ 0 → (i : ℕ) → i < length ms → weight f (k + i) (at ms i) ≡ 0
 zero_each f k [] h i l = absurd (omega arith)
-zero_each f k (m ∷ ms) h zero l = let F : ℕ → Type 0 = λ j. weight f j m ≡ 0 in let q : k ≡ k + 0 = omega arith in subst F q (left (weight f k m) _ h)
-  where
-    left : (a b : ℕ) → a + b ≡ 0 → a ≡ 0
-    left a b e = omega arith
-zero_each f k (m ∷ ms) h (suc i) l =
-    let F : ℕ → Type 0 = λ j. weight f j (at ms i) ≡ 0 in let q : suc k + i ≡ k + suc i = omega arith in subst F q (zero_each f (suc k) ms (right (weight f k m) _ h) i (omega arith))
-  where
-    right : (a b : ℕ) → a + b ≡ 0 → b ≡ 0
-    right a b e = omega arith
+zero_each f k (m ∷ ms) h zero l = rw add-zero (omega arith)
+zero_each f k (m ∷ ms) h (suc i) l = rw add-suc (rw suc-add at (zero_each f (suc k) ms (omega arith) i (omega arith)))
 
 pub each_zero : (f : Entry → ℕ) (k : ℕ) (ms : List Meaning) → ((i : ℕ) → i < length ms → weight f (k + i) (at ms i) ≡ 0) → weights f k ms ≡ 0
 each_zero f k [] h = refl
 each_zero f k (m ∷ ms) h =
-    let F : ℕ → Type 0 = λ j. weight f j m ≡ 0 in
-    let q : k + 0 ≡ k = omega arith in
-    let a = subst F q (h 0 (omega arith)) in
-    let b = each_zero f (suc k) ms (λ i l. let G : ℕ → Type 0 = λ j. weight f j (at ms i) ≡ 0 in let r : k + suc i ≡ suc k + i = omega arith in subst G r (h (suc i) (omega arith))) in
-    sum (weight f k m) _ a b
-  where
-    sum : (x y : ℕ) → x ≡ 0 → y ≡ 0 → x + y ≡ 0
-    sum x y a b = omega arith
-
-drop_nil : (i : ℕ) → drop {A = Meaning} i [] ≡ []
-drop_nil zero = refl
-drop_nil (suc i) = refl
+    let a = rw add-zero at (h 0 (omega arith)) in
+    let b = each_zero f (suc k) ms (λ i l. rw suc-add (rw add-suc at (h (suc i) (omega arith)))) in
+    omega arith
 
 -- the set at place i, and those behind it
 pub weights_drop : (f : Entry → ℕ) (k i : ℕ) (ms : List Meaning) → weights f (k + i) (drop i ms) ≡ weight f (k + i) (at ms i) + weights f (suc (k + i)) (drop (suc i) ms)
 weights_drop f k zero [] = refl
 weights_drop f k (suc i) [] = refl
 weights_drop f k zero (m ∷ ms) = refl
-weights_drop f k (suc i) (m ∷ ms) =
-    let F : ℕ → Type 0 = λ j. weights f j (drop i ms) ≡ weight f j (at ms i) + weights f (suc j) (drop (suc i) ms) in
-    let q : suc k + i ≡ k + suc i = omega arith in
-    subst F q (weights_drop f (suc k) i ms)
+weights_drop f k (suc i) (m ∷ ms) = rw add-suc (rw suc-add at (weights_drop f (suc k) i ms))
 
 -- ---- the test
 
@@ -102,10 +72,7 @@ hit_none e x s = rw s
 missed_sum : (e : Entry) (es : List Entry) → among e es ≡ false → sum_by (hit e) es ≡ 0
 missed_sum e [] h = refl
 missed_sum e (x ∷ xs) h =
-    let p = or_parts (same_entry e x) (among e xs) h in sum_by-cons (hit e) x xs ∙ both (hit e x) _ (hit_none e x p.0) (missed_sum e xs p.1)
-  where
-    both : (a b : ℕ) → a ≡ 0 → b ≡ 0 → a + b ≡ 0
-    both a b p q = omega arith
+    let p = or_parts (same_entry e x) (among e xs) h in omega (arith, sum_by-cons (hit e) x xs, hit_none e x p.0, missed_sum e xs p.1)
 
 -- entries that match the sets have every sum of them
 pub matched : (k : ℕ) (ms : List Meaning) (es : List Entry) → matches k ms es ≡ true → (f : Entry → ℕ) → sum_by f es ≡ weights f k ms

@@ -1,48 +1,25 @@
 -- The top of a heap of entries: the lowest id that the sets list, and of those that list it the first.
-use Rattle.std.proofs.Common.{◌≡◌, ℕ, ◌+◌, ◌<◌, ◌≤◌, Bool, true, false, cond, not, ◌&&◌, eqb, ltb, leb, ◌⊎◌, List, [], ◌∷◌, length, get_or, take, Some, None, sum_by, Option, sym, refl, ap, ◌∙◌, subst, inl, inr, ⊎_elim, arith}
+use Rattle.std.proofs.Common.{◌≡◌, ℕ, ◌<◌, ◌≤◌, Bool, true, false, cond, not, ◌&&◌, eqb, ltb, leb, ◌⊎◌, List, [], ◌∷◌, length, get_or, sum_by, sym, refl, ap, ◌∙◌, subst, inl, inr, ⊎_elim, zero-add, arith}
 use Rattle.std.proofs.ByRecursion.{All-from_get_or, sum_by_le}
-use Rattle.std.proofs.lemmas.List.{get_or_default, get_or-take, length-take-le}
 use Rattle.std.proofs.lemmas.List.Sums.{get_or-le-sum_by}
-use Rattle.std.proofs.lemmas.Bool.{ltb-true, ltb-false, leb-true, eqb-true, lt-ltb, eq-eqb, and_parts, and_from, not-true, not-false, not_from_false, not_from_true, cases_lt, cases_Bool, both_ways}
+use Rattle.std.proofs.lemmas.Bool.{ltb-true, ltb-false, leb-true, eqb-true, lt-ltb, eq-eqb, and_parts, and_from, not-true, not_from_false, cases_Bool, both_ways}
 use Rattle.docset.specs.Meaning.{Meaning, Pair, TERM, Rising, first_id}
 use Rattle.docset.proofs.Lists.{settled}
 use Rattle.bank.specs.Places.{at}
 use Rattle.heap.specs.declared.order.Entry.{Entry}
-use Rattle.heap.specs.declared.heap.Top.TheVariants.{First}
-use Rattle.heap.specs.Ranks.{lex, IsHeap}
-use Rattle.heap.specs.Heaps.{Topped}
-use Rattle.heap.proofs.Shuffles.{held_some}
+use Rattle.heap.specs.Ranks.{lex}
 use Rattle.live.specs.Sets.{empty, lowest_of}
 use Rattle.live.specs.Kept.{none_left}
 use Rattle.live.proofs.Keeps.{steady_at, lowest_le}
 use Rattle.live.proofs.Passed.{rising_at, lowest_at, lowest_bound}
-use Rattle.threshold.specs.Entries.{entry_of, earlier, blank, Stacked, no_id, Heaped, weight, weights, Ready}
+use Rattle.threshold.specs.Entries.{entry_of, earlier, Tops, weight, weights, Ready}
 use Rattle.threshold.proofs.Sums.{zero_each, each_zero}
 
--- ---- the heap in its two forms
+-- ---- sums over the entries
 
-pub as_heap : (xs : List Entry) (n : ℕ) → n ≤ length xs → Stacked xs n → IsHeap earlier First xs n
-as_heap xs n le h p k d lo a b c =
-    let F : Entry → Entry → Type 0 = λ x y. not (earlier x y) ≡ false in
-    subst (λ x. F x (get_or xs k d)) (get_or_default xs p blank d (omega arith))
-    (subst (F (get_or xs p blank)) (get_or_default xs k blank d (omega arith)) (not_from_true _ (h p k (a, b, c))))
-
-pub as_stack : (xs : List Entry) (n : ℕ) → IsHeap earlier First xs n → Stacked xs n
-as_stack xs n h p k w = not-false _ (h p k blank (omega arith) w.0 w.1 w.2)
-
--- ---- sums over the first n
-
-pub sum_none : (f : Entry → ℕ) (xs : List Entry) (n : ℕ) (d : Entry) → n ≤ length xs → ((k : ℕ) → k < n → f (get_or xs k d) ≡ 0) → sum_by f (take n xs) ≡ 0
-sum_none f xs n d le h =
-    let l = length-take-le n xs le in
-    let s = sum_by_le f 0 (take n xs) (All-from_get_or (λ x. f x ≤ 0) (take n xs) d (λ k q. let e = ap f (get_or-take n xs k d (omega arith)) in let z = h k (omega arith) in omega arith)) in
-    omega arith
-
-pub top_in : (f : Entry → ℕ) (xs : List Entry) (n : ℕ) (e : Entry) → 0 < n → n ≤ length xs → get_or xs 0 e ≡ e → f e ≤ sum_by f (take n xs)
-top_in f xs n e lo le q =
-    let l = length-take-le n xs le in
-    let a = get_or-le-sum_by f (take n xs) 0 e (omega arith) in
-    let b = ap f (get_or-take n xs 0 e lo ∙ q) in
+sum_none : (f : Entry → ℕ) (E : List Entry) (d : Entry) → ((k : ℕ) → k < length E → f (get_or E k d) ≡ 0) → sum_by f E ≡ 0
+sum_none f E d h =
+    let s = sum_by_le f 0 E (All-from_get_or (λ x. f x ≤ 0) E d (λ k q. let z = h k q in omega arith)) in
     omega arith
 
 -- ---- the top
@@ -80,24 +57,22 @@ good_all P i l = go (none_left (at P i).pairs) refl
     go false e = unless_true _ (good_one P i l e)
 
 at_zero : (f : Entry → ℕ) (P : List Meaning) (i : ℕ) → weights f 0 P ≡ 0 → i < length P → weight f i (at P i) ≡ 0
-at_zero f P i h l = let F : ℕ → Type 0 = λ j. weight f j (at P i) ≡ 0 in let q : 0 + i ≡ i = omega arith in subst F q (zero_each f 0 P h i l)
+at_zero f P i h l = rw zero-add at (zero_each f 0 P h i l)
 
-pub top_least : (P : List Meaning) (xs : List Entry) (n : ℕ) (e : Entry) → Ready P (take n xs) → Heaped xs n → 0 < n → get_or xs 0 e ≡ e
-    → ((k : ℕ) → k < n → earlier e (get_or xs k e) ≡ true) → Least P e
+pub top_least : (P : List Meaning) (E : List Entry) (e : Entry) → Tops E e → Ready P E → Least P e
 unfolding good
-top_least P xs n e r h lo q lead =
+top_least P E e t r =
     let bad : Entry → ℕ = λ x. one_unless (good P x) in
-    let le : n ≤ length xs = let a = h.size in let b = h.few in omega arith in
-    let z : weights bad 0 P ≡ 0 = each_zero bad 0 P (λ i l. let F : ℕ → Type 0 = λ j. weight bad j (at P i) ≡ 0 in let p : i ≡ 0 + i = omega arith in subst F p (good_all P i l)) in
-    let t = top_in bad xs n e lo le q in
+    let z : weights bad 0 P ≡ 0 = each_zero bad 0 P (λ i l. rw zero-add (good_all P i l)) in
+    let a = get_or-le-sum_by bad E 0 e t.some in
+    let b = ap bad (t.first e) in
     let s = r.counts bad in
     parts (unless_zero (good P e) (omega arith))
   where
     bounds : (k : ℕ) → k < length P → none_left (at P k).pairs ≡ false → earlier e (entry_of k (at P k)) ≡ true
     bounds k l s =
         let late : Entry → ℕ = λ x. one_unless (earlier e x) in
-        let le : n ≤ length xs = let a = h.size in let b = h.few in omega arith in
-        let z = sum_none late xs n e le (λ i u. unless_true _ (lead i u)) in
+        let z = sum_none late E e (λ i u. unless_true _ (t.leads i u)) in
         let w = at_zero late P k (sym (r.counts late) ∙ z) l in
         let F : Bool → Type 0 = λ b. cond b 0 (one_unless (earlier e (entry_of k (at P k)))) ≡ 0 in
         let v : one_unless (earlier e (entry_of k (at P k))) ≡ 0 = subst F s w in
@@ -171,34 +146,3 @@ none_lowest P h =
     let a = lowest_bound P TERM (omega arith) (λ k l. let e = ap (λ m. first_id m.pairs) (h k l) in omega arith) in
     let b = lowest_le P in
     omega arith
-
-pub no_entry : (xs : List Entry) (n : ℕ) → Heaped xs n → Topped earlier xs n None → n ≡ 0
-no_entry xs n h t = ⊎_elim
-    (λ l. absurd (let e = t.some (l, let a = h.size in let b = h.few in omega arith) blank in let z : ◌≡◌ {A = ℕ} 0 1 = cc in omega arith))
-    (λ l. omega arith)
-    (cases_lt 0 n)
-
-pub topped_least :
-    (P : List Meaning) (xs : List Entry) (n : ℕ) (e : Entry) (r : Option Entry) → Topped earlier xs n r → Heaped xs n → 0 < n → ((d : Entry) → get_or xs 0 d ≡ e) →
-    Ready P (take n xs) → Least P e
-topped_least P xs n e r t h lo q y =
-    let le : n ≤ length xs = let a = h.size in let b = h.few in omega arith in
-    top_least P xs n e y h lo (q e) (λ k l. let F : Entry → Type 0 = λ x. earlier x (get_or xs k e) ≡ true in subst F (q e) (t.leading First (as_heap xs n le h.heap) k e l))
-
--- the top that was answered
-pub top_held : (xs : List Entry) (n : ℕ) (e : Entry) → Topped earlier xs n (Some e) → Heaped xs n → (0 < n) × ((d : Entry) → get_or xs 0 d ≡ e)
-top_held xs n e t h =
-    let w = held_some earlier xs n e t in
-    (w.0, λ d. let s = t.some w d in cc)
-
--- its id is one
-pub top_id : (xs : List Entry) (n : ℕ) (e : Entry) → Heaped xs n → 0 < n → ((d : Entry) → get_or xs 0 d ≡ e) → e.id < TERM
-top_id xs n e h lo q =
-    let le : n ≤ length xs = let a = h.size in let b = h.few in omega arith in
-    let t = top_in no_id xs n e lo le (q e) in
-    let z = h.ids in
-    go (ltb e.id TERM) refl (omega arith)
-  where
-    go : (b : Bool) → ltb e.id TERM ≡ b → cond {A = ℕ} b 0 1 ≤ 0 → e.id < TERM
-    go true p l = ltb-true e.id TERM p
-    go false p l = absurd (omega arith)

@@ -1,12 +1,13 @@
 -- The entries in a threshold's heap: for each set that has something left its first id and its place.
 -- P are the sets before a call and Q after it, E the entries before it and F after it.
-use Rattle.std.specs.Prelude.{◌≡◌, ℕ, suc, ◌+◌, ◌*◌, ◌<◌, ◌≤◌, Bool, true, false, cond, ◌&&◌, ◌||◌, List, [], ◌∷◌, length, take, sum_by, ◌==◌, nat_lt, slice_index_or, slice_set, Float}
+use Rattle.std.specs.Prelude.{◌≡◌, ℕ, suc, ◌+◌, ◌<◌, ◌≤◌, Bool, true, false, cond, ◌&&◌, ◌||◌, List, [], ◌∷◌, length, take, sum_by, ◌==◌, nat_lt, slice_index_or, slice_set, Float}
 use Rattle.docset.specs.Meaning.{Meaning, TERM, calm, rest, first_id, first_score}
 use Rattle.combiner.specs.declared.score_combiner.Tally.{Tally}
 use Rattle.combiner.specs.Cells.{some}
 use Rattle.bank.specs.Places.{at}
 use Rattle.heap.specs.declared.order.Entry.{Entry}
-use Rattle.heap.specs.Ranks.{lex}
+use Rattle.heap.specs.declared.heap.Top.TheVariants.{First}
+use Rattle.heap.specs.Ranks.{lex, IsHeap}
 use Rattle.live.specs.Sets.{passed, lowest_of, AllSteady, AllRising}
 use Rattle.live.specs.Kept.{none_left}
 use Rattle.live.specs.Lists.{scores_at, united}
@@ -42,13 +43,6 @@ matches k (m ∷ ms) es =
 abbrev pub earlier : Entry → Entry → Bool
 earlier a b = lex a.id a.place b.id b.place
 
-abbrev pub blank : Entry
-blank = record { id = 0; place = 0 }
-
--- the first n are a heap: each entry is earlier than the two below it
-abbrev pub Stacked : List Entry → ℕ → Type 0
-Stacked xs n = (p k : ℕ) → (p * 2 + 1 ≤ k) × (k ≤ p * 2 + 2) × (k < n) → earlier (slice_index_or xs p blank) (slice_index_or xs k blank) ≡ true
-
 -- 1 for an entry whose id is none
 abbrev pub no_id : Entry → ℕ
 no_id e = cond (nat_lt e.id TERM) 0 1
@@ -57,8 +51,16 @@ no_id e = cond (nat_lt e.id TERM) 0 1
 pub record Heaped (xs : List Entry) (n : ℕ) : Type 0 where
   pub size : length xs ≡ 32
   pub few : n ≤ 32
-  pub heap : Stacked xs n
+  pub heap : IsHeap earlier First xs n
   pub ids : sum_by no_id (take n xs) ≡ 0
+
+-- e is the top of the entries E: it has an id, and is earlier than each of them
+pub record Tops (E : List Entry) (e : Entry) : Type 0 where
+  pub some : 0 < length E
+  pub few : length E ≤ 32
+  pub first : (d : Entry) → slice_index_or E 0 d ≡ e
+  pub an_id : e.id < TERM
+  pub leads : (k : ℕ) → k < length E → earlier e (slice_index_or E k e) ≡ true
 
 -- ---- steps over steady sets
 

@@ -1,14 +1,16 @@
 -- What a threshold over several sets means: its current document, and the threshold of what its sets have left.
-use Rattle.std.specs.Prelude.{◌≡◌, ℕ, suc, ◌+◌, Bool, true, cond, ◌&&◌, ◌||◌, List, [], ◌∷◌, take as first, replicate, Some, None, Option, ◌==◌, nat_lt, Float}
+use Rattle.std.specs.Prelude.{◌≡◌, ℕ, suc, ◌+◌, Bool, true, cond, ◌&&◌, ◌||◌, List, [], ◌∷◌, length, replicate, Some, None, Option, ◌==◌, nat_lt, Float}
 use Rattle.docset.specs.Meaning.{Meaning, Pair, lost, TERM, calm}
 use Rattle.docset.specs.declared.refusal.Refusal.{Refusal}
 use Rattle.docset.specs.declared.refusal.Refusal.TheVariants.{TooManySets, MinimumZero}
 use Rattle.combiner.specs.declared.score_combiner.Tally.{Tally}
 use Rattle.heap.specs.declared.order.Entry.{Entry}
+use Rattle.live.specs.declared.live.Live.{Live}
 use Rattle.live.specs.Sets.{passed, lowest_of, all_steady, all_rising}
 use Rattle.live.specs.Kept.{kept, due, greatest}
 use Rattle.live.specs.Lists.{threshold_list}
 use Rattle.threshold.specs.Entries.{matches, Ready}
+use Rattle.threshold.specs.declared.queue.Queue.{Queue}
 use Rattle.threshold.specs.declared.disjunction.Disjunction.{Disjunction}
 
 -- ---- refusals
@@ -45,18 +47,29 @@ abbrev pub on : ℕ → Bool → ℕ
 on doc unread = cond (nat_lt doc TERM || unread) 1 0
 
 -- what the sets have left
+abbrev pub left : {B : Type 0} → (B → List Meaning) → Live B → List Meaning
+left places s = kept s.live (places s.bank)
+
+-- how many answers may still come of them
+abbrev pub awaited : {B : Type 0} → (B → List Meaning) → Live B → ℕ
+awaited places s = due s.live (places s.bank)
+
+-- and how many stand in the queue: with each document that a threshold comes to it has one less
+abbrev pub room : {B : Type 0} → (B → List Meaning) → Queue B → ℕ
+room places q = length q.chains + awaited places q.sets
+
 abbrev pub left_of : {B C : Type 0} → (B → List Meaning) → Disjunction B C → List Meaning
-left_of places d = kept d.sets.live (places d.sets.bank)
+left_of places d = left places d.queue.sets
 
 abbrev pub threshold_meaning :
     {B C : Type 0} → (B → List Meaning) → (C → Tally → Float → Tally) → (C → Tally → Float) → Disjunction B C → Meaning
 threshold_meaning places take tell d =
-    means d.minimum (take d.combiner) (tell d.combiner) d.doc d.score (first d.len d.chains) (left_of places d)
-    (on d.doc d.unread + (d.len + due d.sets.live (places d.sets.bank)))
+    means d.minimum (take d.combiner) (tell d.combiner) d.doc d.score d.queue.chains (left_of places d)
+    (on d.doc d.unread + room places d.queue)
 
 -- the greatest of the sets' guesses while any set has something left, or all are yet to be read
 abbrev pub guess_of : {B C : Type 0} → (B → List ℕ) → Disjunction B C → ℕ
-guess_of guesses d = cond (d.unread || nat_lt 0 d.len) (greatest (guesses d.sets.bank)) 0
+guess_of guesses d = cond (d.unread || nat_lt 0 (length d.queue.chains)) (greatest (guesses d.queue.sets.bank)) 0
 
 -- ---- how far the sets are read
 

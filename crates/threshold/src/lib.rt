@@ -1,5 +1,6 @@
 // The documents that at least so many of several sets list.
 #![tactic(auto)]
 
+mod chains;
 pub mod disjunction;
-mod group;
+mod queue;

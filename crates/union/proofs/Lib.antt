@@ -1,1 +1,2 @@
 pub mod Ghosts
+pub mod Turns

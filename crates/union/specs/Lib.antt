@@ -1,1 +1,2 @@
 pub mod Builds
+pub mod Reading

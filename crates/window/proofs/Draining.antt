@@ -1,5 +1,5 @@
 -- Slots taken out one after the other into a buffer.
-use Rattle.std.proofs.Common.{◌≡◌, ℕ, suc, ◌+◌, ◌-◌, ◌<◌, ◌≤◌, List, [], ◌∷◌, ◌++◌, length, get_or, take, drop, set, sym, refl, ap, ◌∙◌, ⊎_elim, append_assoc, arith, length-append}
+use Rattle.std.proofs.Common.{◌≡◌, ℕ, suc, ◌+◌, ◌-◌, ◌<◌, ◌≤◌, List, [], ◌∷◌, ◌++◌, length, get_or, take, drop, set, sym, refl, ap, ◌∙◌, subst, ⊎_elim, append_assoc, arith, length-append}
 use lib.ListN.{length-map}
 use Rattle.std.proofs.lemmas.List.{set_at, drop_more, length-take-le, map_push, take-append-drop}
 use Rattle.std.proofs.lemmas.Bool.{cases_eq, cases_lt}
@@ -100,15 +100,20 @@ count_parts a d le =
 
 -- the buffer is full
 pub drained_full : (a b : ℕ → Cell) (start filled : ℕ) (old new : List ℕ) (place : ℕ) → 64 ≤ place
-    → Draining a b start filled old new place → Drained a b start filled old new place
-drained_full a b start filled old new place ge g = record {
-  reach = g.reach;
-  inside = g.inside;
-  wiped = g.wiped;
-  answer = g.answer;
-  full = let p = g.answer in let q = count_parts a g.reach g.inside in let r = g.room in omega arith;
-  buffer = g.buffer;
-}
+    → Draining a b start filled old new place → Drained a b start filled old new 64
+drained_full a b start filled old new place ge h =
+    let r = h.room in
+    let e : place ≡ 64 = omega arith in
+    let F : ℕ → Type 0 = Draining a b start filled old new in
+    let g = subst F e h in
+    record {
+      reach = g.reach;
+      inside = g.inside;
+      wiped = g.wiped;
+      answer = g.answer;
+      full = let p = g.answer in let q = count_parts a g.reach g.inside in omega arith;
+      buffer = g.buffer;
+    }
 
 -- the window is empty
 pub drained_ended : (a b c : ℕ → Cell) (start filled : ℕ) (old new : List ℕ) (place : ℕ) → Ended b c

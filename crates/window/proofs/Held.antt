@@ -1,10 +1,12 @@
 -- What a window holds, slot by slot: after a score is taken, after a slot is taken out, after words are emptied; and how many slots hold something.
-use Rattle.std.proofs.Common.{◌≡◌, ℕ, zero, suc, ◌+◌, ◌*◌, ◌/◌, ◌%◌, ◌^◌, ◌<◌, ◌≤◌, ◌≢◌, ◌⊎◌, List, length, get_or, set, replicate, sym, refl, ap, ◌∙◌, subst, inl, inr, ⊎_elim, pow-suc, add-one, arith, get_or-set_other, get_or-set_same}
+use Rattle.std.proofs.Common.{◌≡◌, ℕ, zero, suc, ◌+◌, ◌-◌, ◌*◌, ◌/◌, ◌%◌, ◌^◌, ◌<◌, ◌≤◌, ◌≢◌, ◌⊎◌, List, length, get_or, drop, set, replicate, sym, refl, ap, ◌∙◌, subst, inl, inr, ⊎_elim, pow-suc, add-one, arith, get_or-set_other, get_or-set_same}
 use lib.Count.{ones, ones_step}
 use lib.Ieee.{Float}
-use lib.ListN.{get_or-replicate, length-replicate}
+use lib.ListN.{get_or-replicate, length-replicate, drop_of_length-le}
 use Rattle.std.proofs.lemmas.Nat.{shr-shr}
+use Rattle.std.specs.List.{sum_by}
 use Rattle.std.proofs.lemmas.List.{get_or_past}
+use Rattle.std.proofs.lemmas.List.Sums.{sum_by-drop_more}
 use Rattle.std.proofs.lemmas.Bool.{cases_eq, cases_lt, cases_Bool, cond-true, eqb-false}
 use Rattle.docset.specs.Bits.{bit_set}
 use Rattle.combiner.specs.declared.score_combiner.Tally.{Tally}
@@ -48,9 +50,8 @@ pub held_past : (ws : List ℕ) (ts : List Tally) (e : ℕ) → length ws ≡ 64
 held_past ws ts e n le = slot_none ws ts e (slot_empty ws e (get_or_past ws (e / 64) 0 (omega arith)))
 
 -- nothing, where no slot of any word is set
-pub held_none : (ws : List ℕ) (ts : List Tally) (b : ℕ) → length ws ≡ 64 → 64 ≤ b → Behind ws (b * 64) → (e : ℕ) → held ws ts e ≡ none
-held_none ws ts b n le h e =
-    ⊎_elim (λ l. slot_none ws ts e (h e l)) (λ g. held_past ws ts e n (omega arith)) (cases_lt e (b * 64))
+pub held_none : (ws : List ℕ) (ts : List Tally) → length ws ≡ 64 → Behind ws 4096 → (e : ℕ) → held ws ts e ≡ none
+held_none ws ts n h e = ⊎_elim (λ l. slot_none ws ts e (h e l)) (held_past ws ts e n) (cases_lt e 4096)
 
 zeros : (n k : ℕ) → ◌≡◌ {A = ℕ} (get_or (replicate n 0) k 0) 0
 zeros n k = ⊎_elim (λ l. get_or-replicate n k 0 0 l) (λ g. get_or_past (replicate n 0) k 0 (rw length-replicate g)) (cases_lt k n)
@@ -149,12 +150,26 @@ count_word ws ts b lt =
 pub count_behind : (ws : List ℕ) (ts : List Tally) (lo : ℕ) → Behind ws lo → count (held ws ts) 0 lo ≡ 0
 count_behind ws ts lo h = count_none (held ws ts) 0 lo (λ d ge lt. slot_none ws ts d (h d (omega arith)))
 
--- one word more
-pub count_more_word : (ws : List ℕ) (ts : List Tally) (b : ℕ) → get_or ws b 0 < 2 ^ 64
-    → count (held ws ts) 0 ((b + 1) * 64) ≡ count (held ws ts) 0 (b * 64) + ones (get_or ws b 0)
-count_more_word ws ts b lt =
-    let e : (b + 1) * 64 ≡ b * 64 + 64 = omega arith in
-    let z : 0 + b * 64 ≡ b * 64 = omega arith in
-    ap (count (held ws ts) 0) e ∙ count_split (held ws ts) 0 (b * 64) 64 ∙
-    ap (λ (x : ℕ). count (held ws ts) 0 (b * 64) + count (held ws ts) x 64) z ∙
-    ap (λ (x : ℕ). count (held ws ts) 0 (b * 64) + x) (count_word ws ts b lt)
+-- the slots of the words from b on
+pub count_words : (ws : List ℕ) (ts : List Tally) (b n : ℕ) → b + n ≡ length ws → ((k : ℕ) → get_or ws k 0 < 2 ^ 64)
+    → count (held ws ts) (b * 64) (n * 64) ≡ sum_by ones (drop b ws)
+unfolding slots
+count_words ws ts b zero e h = let d = drop_of_length-le ws {i = b} (omega arith) in rw d
+count_words ws ts b (suc n) e h =
+    let p : suc n * 64 ≡ 64 + n * 64 = omega arith in
+    let q : b * 64 + 64 ≡ (b + 1) * 64 = omega arith in
+    let w = count_word ws ts b (h b) in
+    let r = ap (λ (x : ℕ). count (held ws ts) x (n * 64)) q ∙ count_words ws ts (b + 1) n (omega arith) h in
+    let s = sum_by-drop_more ones ws b 0 (omega arith) in
+    ap (count (held ws ts) (b * 64)) p ∙ count_split (held ws ts) (b * 64) 64 (n * 64) ∙ omega arith
+
+-- all of a window's slots, where none before word b is set
+pub count_all : (ws : List ℕ) (ts : List Tally) (b : ℕ) → length ws ≡ 64 → b ≤ 64 → Behind ws (b * 64) → ((k : ℕ) → get_or ws k 0 < 2 ^ 64)
+    → count (held ws ts) 0 4096 ≡ sum_by ones (drop b ws)
+count_all ws ts b n le h f =
+    let p : 4096 ≡ b * 64 + (64 - b) * 64 = omega arith in
+    let z = count_behind ws ts (b * 64) h in
+    let w = count_words ws ts b (64 - b) (omega arith) f in
+    let o : 0 + b * 64 ≡ b * 64 = omega arith in
+    ap (count (held ws ts) 0) p ∙ count_split (held ws ts) 0 (b * 64) ((64 - b) * 64) ∙
+    ap (λ (x : ℕ). count (held ws ts) 0 (b * 64) + count (held ws ts) x ((64 - b) * 64)) o ∙ omega arith

@@ -4,10 +4,15 @@ use Rattle.docset.specs.Bits.{bit_set}
 use Rattle.combiner.specs.declared.score_combiner.Tally.{Tally}
 use Rattle.combiner.specs.Cells.{Cell, none, some, put, slots, count}
 use Rattle.window.specs.Slots.{blank}
+use Rattle.window.specs.declared.window.Window.{Window}
 
 -- what a window of these words and tallies holds at slot d: its tally, if its bit is set
 unfoldable pub held : List ℕ → List Tally → ℕ → Cell
 held ws ts d = cond (bit_set ws d) (some (slice_index_or ts d blank)) none
+
+-- what a window holds, slot by slot
+abbrev pub cells : Window → ℕ → Cell
+cells w = held w.words w.tallies
 
 -- the cells b are those of a
 abbrev pub Same : (ℕ → Cell) → (ℕ → Cell) → Type 0
@@ -54,3 +59,9 @@ pub record Drained (a b : ℕ → Cell) (start filled : ℕ) (old new : List ℕ
   pub answer : r ≡ filled + count a 0 reach
   pub full : r ≡ min 64 (filled + count a 0 4096)
   pub buffer : new ≡ take filled old ++ (shifted start (slots a 0 reach) ++ drop r old)
+
+-- The ids of slots, counted from start, are to be written after the places that are filled. Where start is past TERMINATED, or
+-- more than 64 places are said to be filled, nothing is changed, and r places are filled as before.
+pub record Drains (a b : ℕ → Cell) (start filled : ℕ) (old new : List ℕ) (r : ℕ) : Type 0 where
+  pub drained : start ≤ 2147483647 → filled ≤ 64 → Drained a b start filled old new r
+  pub kept : (start ≤ 2147483647 → filled ≤ 64 → ⊥) → (r ≡ filled) × Same a b × (new ≡ old)

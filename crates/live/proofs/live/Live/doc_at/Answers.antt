@@ -6,10 +6,10 @@ pub returns-then-is_live : goal.returns-then-is_live
 returns-then-is_live g c =
     let b = c.args.self.now in
     let l = sym c.is_live.ensures ∙ c.if-is_live.true in
-    record { told = told_live b.live (g.B.Bank.places b.bank) c.args.place _ l c.doc_at.ensures; live = λ x. l }
+    record { told = told_live b.live (g.B.Bank.rows b.bank).places c.args.place _ l c.doc_at.ensures; live = λ x. l }
 
 pub returns-else-is_live : goal.returns-else-is_live
 returns-else-is_live g c =
     let b = c.args.self.now in
     let l = sym c.is_live.ensures ∙ c.if-is_live.false in
-    record { told = told_none b.live (g.B.Bank.places b.bank) c.args.place l; live = λ x. absurd (omega arith) }
+    record { told = told_none b.live (g.B.Bank.rows b.bank).places c.args.place l; live = λ x. absurd (omega arith) }

@@ -1,11 +1,9 @@
-use Rattle.std.proofs.Common.{◌≡◌, ◌≤◌, ◌++◌, length, take}
-use Rattle.live.specs.Kept.{chosen}
+use Rattle.std.proofs.Common.{◌≡◌, ◌≤◌, ◌++◌, length}
+use Rattle.live.specs.Views.{live_hints}
 use Rattle.live.proofs.Numbers.{later}
 use Rattle.live.proofs.live.Live.estimate.Given as goal
 
 abbrev pub invariant-loop-place : goal.invariant-loop-place
 invariant-loop-place g l =
-    (length l.sizes ≡ 32)
-    × (l.count ≤ l.place)
-    × (take l.count l.sizes ++ later l.self.live (g.B.Bank.hints l.self.bank) l.place
-    ≡ chosen 0 l.self.live (g.B.Bank.hints l.self.bank))
+    (length l.sizes.items ≤ l.place)
+    × (l.sizes.items ++ later l.self.live (g.B.Bank.rows l.self.bank).hints l.place ≡ live_hints g.B.Bank.rows l.self)

@@ -7,13 +7,13 @@ pub loop-place-init : goal.loop-place-init
 loop-place-init g c = record { rises = λ s k l. absurd (omega arith); becomes = λ s. refl; pays = omega arith }
 
 pub loop-place-preserved : goal.loop-place-preserved
-loop-place-preserved g c = sending_more c.args.target c.loop-place.place _ _ _ _ _ _ c.loop-place.invariant c.send.ensures
+loop-place-preserved g c = sending_more c.args.target c.loop-place.place g.B.Bank.rows _ _ _ c.loop-place.invariant c.send.ensures
 
 pub returns : goal.returns
 returns g c =
     let b = c.args.self.now in
-    let P = kept b.live (g.B.Bank.places b.bank) in
-    let n = length_kept b.live (g.B.Bank.places b.bank) in
+    let P = kept b.live (g.B.Bank.rows b.bank).places in
+    let n = length_kept b.live (g.B.Bank.rows b.bank).places in
     let m = b.count in
     let v = c.loop-place.invariant in
     record {

@@ -19,7 +19,7 @@ returns-else-reads_scores g c =
     record {
       same = λ s. refl;
       alike = λ z t. g.met.C.ScoreCombiner.unread c.args.combiner.now t _ _ (c.reads_scores.ensures c.if-reads_scores.false);
-      others = set_at (kept c.args.self.now.live (g.B.Bank.places c.args.self.now.bank)) c.args.place;
+      others = set_at (kept c.args.self.now.live (g.B.Bank.rows c.args.self.now.bank).places) c.args.place;
       live = refl;
       pays = omega arith;
     }

@@ -1,8 +1,6 @@
-use Rattle.combiner.specs.Scores.{combined}
+use Rattle.std.proofs.Common.{rules}
 use Rattle.scored.proofs.Optionals.{counted_alive_opted}
 use Rattle.scored.proofs.reqopt_scorer.RequiredOptionalScorerDocSet.count.Goals as goal
 
 pub returns : goal.returns
-returns g c =
-    counted_alive_opted (combined (g.C.ScoreCombiner.taken g.C.ScoreCombiner.plain) (g.C.ScoreCombiner.told g.C.ScoreCombiner.plain))
-    c.args.self.score_cache _ _ (g.O.DocSet.meaning c.args.self.optional) _ c.count.ensures
+returns g c = search (counted_alive_opted, rules)

@@ -1,11 +1,6 @@
-use Rattle.std.proofs.Common.{refl}
-use Rattle.combiner.specs.Scores.{combined}
+use Rattle.std.proofs.Common.{rules}
 use Rattle.scored.proofs.Optionals.{sought_opted}
 use Rattle.scored.proofs.reqopt_scorer.RequiredOptionalScorerDocSet.seek.Goals as goal
 
-pub returns : goal.returns
-returns g c =
-    record {
-      moves = sought_opted (combined (g.C.ScoreCombiner.taken g.C.ScoreCombiner.plain) (g.C.ScoreCombiner.told g.C.ScoreCombiner.plain)) c.args.self.now.score_cache _ _ _ (g.O.DocSet.meaning c.args.self.now.optional) _ c.seek-doc.ensures;
-      unasked = refl;
-    }
+pub returns-clause-moves : goal.returns-clause-moves
+returns-clause-moves g c = search (sought_opted, rules)

@@ -5,12 +5,10 @@ use Rattle.window.proofs.window.Window.drain.Goals as goal
 pub loop-place-init : goal.loop-place-init
 loop-place-init c = draining_none _ c.args.start c.args.filled c.args.buffer.now (omega arith)
 
-pub returns-in-None : goal.returns-in-None
-returns-in-None c = record {
-  drained = λ p q. drained_ended _ _ _ c.args.start c.args.filled _ c.loop-place.buffer c.loop-place.place c.in-None.ensures c.loop-place.invariant;
-  answers = λ n. absurd (n (omega arith) (omega arith));
-  cells = λ n. absurd (n (omega arith) (omega arith));
-  places = λ n. absurd (n (omega arith) (omega arith));
+pub returns-in_default : goal.returns-in_default
+returns-in_default c = record {
+  drained = λ p q. drained_ended _ _ _ c.args.start c.args.filled _ c.loop-place.buffer c.loop-place.place c.in_default.ensures c.loop-place.invariant;
+  kept = λ n. absurd (n (omega arith) (omega arith));
 }
 
 pub loop-place-preserved : goal.loop-place-preserved
@@ -21,7 +19,5 @@ loop-place-preserved c =
 pub returns : goal.returns
 returns c = record {
   drained = λ p q. drained_full _ _ c.args.start c.args.filled _ c.loop-place.buffer c.loop-place.place (omega arith) c.loop-place.invariant;
-  answers = λ n. absurd (n (omega arith) (omega arith));
-  cells = λ n. absurd (n (omega arith) (omega arith));
-  places = λ n. absurd (n (omega arith) (omega arith));
+  kept = λ n. absurd (n (omega arith) (omega arith));
 }

@@ -1,22 +1,13 @@
-use Rattle.std.proofs.Common.{◌*◌, ◌^◌, ◌<◌, get_or, sym, arith, rules}
-use Rattle.std.proofs.lemmas.Nat.{ones-le}
-use Rattle.combiner.proofs.Cells.{count_le}
-use Rattle.window.specs.Windows.{held}
-use Rattle.window.proofs.Held.{count_behind, count_more_word}
+use Rattle.std.proofs.Common.{◌≡◌, ℕ, ◌^◌, ◌<◌, length, get_or, sym, ap, ◌∙◌, arith, rules}
+use lib.Count.{ones}
+use Rattle.std.specs.List.{sum_by}
+use Rattle.std.proofs.lemmas.Slice.{between_to_end}
+use Rattle.window.proofs.Held.{count_all}
 use Rattle.window.proofs.window.Window.len.Goals as goal
 
-pub loop-i-init : goal.loop-i-init
-loop-i-init c = let w = c.args.self.now in sym (count_behind w.words w.tallies (w.bucket * 64) w.behind)
-
-pub overflow_add-slots : goal.overflow_add-slots
-overflow_add-slots c =
+pub returns : goal.returns
+returns c =
     let w = c.args.self.now in
-    let fits : get_or w.words c.loop-i.i 0 < 2 ^ 64 = search rules in
-    omega (arith, count_le (held w.words w.tallies) 0 (c.loop-i.i * 64), ones-le 64 (get_or w.words c.loop-i.i 0) fits)
-
-pub loop-i-preserved : goal.loop-i-preserved
-loop-i-preserved c =
-    let w = c.args.self.now in
-    let fits : get_or w.words c.loop-i.i 0 < 2 ^ 64 = search rules in
-    let e = count_more_word w.words w.tallies c.loop-i.i fits in
-    omega arith
+    let n : length w.words ≡ 64 = search rules in
+    let fits : (k : ℕ) → get_or w.words k 0 < 2 ^ 64 = λ k. search rules in
+    c.count_set.ensures ∙ ap (sum_by ones) (between_to_end w.words w.bucket 64 (omega arith)) ∙ sym (count_all w.words w.tallies w.bucket n w.inside w.behind fits)
