@@ -56,7 +56,7 @@ impl<B: Bank> AnyOf<B> {
 }
 
 impl<B: Bank> ExclusionSet for AnyOf<B> {
-    ghost lists = { λ e. B.Bank.places e.bank };
+    ghost lists = { λ e. (B.Bank.rows e.bank).places };
 
     fn contains(&mut self, doc: u32) -> bool {
         self.bank.holds(doc)

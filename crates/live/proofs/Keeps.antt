@@ -4,7 +4,8 @@ use denote.Param.Members.{Mut}
 use Rattle.std.specs.Fn.{Called}
 use Rattle.std.specs.Array.{IsFromFnResult, IsFromFnResultFrom}
 use lib.ListN.{length-replicate, get_or-replicate}
-use Rattle.std.proofs.lemmas.List.{get_or_past}
+use Rattle.std.proofs.lemmas.List.{get_or_past, set-get_or}
+use Rattle.std.proofs.Math.Seq.{drop-nil}
 use Rattle.docset.specs.Meaning.{is_steady, Meaning, Pair, Steady, steady, lost, Known, Rising, TERM, calm, rest, from, first_id, first_score, zero_score}
 use Rattle.docset.specs.Calls.{Told, Moved, Sought, Scored}
 use Rattle.bank.specs.Places.{Rows, at, Elsewhere}
@@ -12,13 +13,11 @@ use Rattle.live.specs.Sets.{empty, lowest_of, AllSteady, all_steady, AllRising, 
 use Rattle.live.specs.Kept.{kept, awake, none_left, due, due_of, live_at}
 use Rattle.live.specs.Views.{left, awaited, Advances, Scores, Sent}
 use Rattle.live.specs.declared.live.Live.{Live}
-use Rattle.docset.proofs.Lists.{ended, rising_rest, rising_from, from_all, steady_known, steady_is, is_then_steady, settled}
+use Rattle.docset.proofs.Lists.{ended, rising_rest, rising_from, steady_known, steady_is, is_then_steady, settled}
 use Rattle.std.proofs.lemmas.Bool.{and_parts, and_from, cases_lt, eqb-true, eqb-false}
 
 pub set_at : (ms : List Meaning) (i : ℕ) → ms ≡ set ms i (at ms i)
-set_at [] i = refl
-set_at (m ∷ ms) zero = refl
-set_at (m ∷ ms) (suc i) = ap (λ xs. m ∷ xs) (set_at ms i)
+set_at ms i = sym (set-get_or ms i empty)
 
 pub at_kept : (bs : List Bool) (ms : List Meaning) (k : ℕ) → at (kept bs ms) k ≡ cond (get_or bs k false) (awake (at ms k)) empty
 at_kept [] ms k = refl
@@ -226,20 +225,10 @@ pub rising_all : (ms : List Meaning) → ((k : ℕ) → k < length ms → Rising
 rising_all [] h = tt
 rising_all (m ∷ ms) h = (h 0 (omega arith), rising_all ms (λ k lt. h (suc k) (omega arith)))
 
-drop_nil : (i : ℕ) → drop {A = Meaning} i [] ≡ []
-drop_nil zero = refl
-drop_nil (suc i) = refl
-
 pub lowest_step : (ms : List Meaning) (i : ℕ) → lowest_of (drop i ms) ≡ min (first_id (at ms i).pairs) (lowest_of (drop (i + 1) ms))
-lowest_step [] i = rw (drop_nil i) (rw (drop_nil (i + 1)))
+lowest_step [] i = rw (drop-nil i) (rw (drop-nil (i + 1)))
 lowest_step (m ∷ ms) zero = refl
 lowest_step (m ∷ ms) (suc i) = let e = lowest_step ms i in rw add-one (rw add-one at e)
-
-pub drop_all : (n : ℕ) (ms : List Meaning) → length ms ≤ n → drop n ms ≡ []
-drop_all zero [] h = refl
-drop_all (suc n) [] h = refl
-drop_all zero (m ∷ ms) h = absurd (omega arith)
-drop_all (suc n) (m ∷ ms) h = drop_all n ms (omega arith)
 
 pub lowest_le : (ms : List Meaning) → lowest_of ms ≤ TERM
 lowest_le [] = omega arith
@@ -249,11 +238,6 @@ pub length_kept : (bs : List Bool) (ms : List Meaning) → length (kept bs ms) �
 length_kept [] ms = omega arith
 length_kept (b ∷ bs) [] = let h = length_kept bs [] in omega arith
 length_kept (b ∷ bs) (m ∷ ms) = let h = length_kept bs ms in omega arith
-
-pub live_inside : (bs : List Bool) (k : ℕ) → live_at bs k → k < length bs
-live_inside [] k l = absurd (let y : ◌≡◌ {A = ℕ} 0 1 = cc in omega arith)
-live_inside (b ∷ bs) zero l = omega arith
-live_inside (b ∷ bs) (suc k) l = let h = live_inside bs k l in omega arith
 
 -- what a flag makes of a set leaves it as it is
 abbrev Apt : Bool → Meaning → Type 0
@@ -296,49 +280,13 @@ flags_apt g P f bs r step s k l =
     at_kept bs P k ∙ flag_apt (at P k) a.0 (get_or bs k false) a.1 a.2 (steady_at P k s)
 
 pub at_outside : (ms : List Meaning) (k : ℕ) → length ms ≤ k → at ms k ≡ empty
-at_outside [] k h = refl
-at_outside (m ∷ ms) zero h = absurd (omega arith)
-at_outside (m ∷ ms) (suc k) h = at_outside ms k (omega arith)
+at_outside ms k h = get_or_past ms k empty h
 
 pub steady_all : (ms : List Meaning) → ((k : ℕ) → k < length ms → Steady (at ms k)) → AllSteady ms
 steady_all [] h = tt
 steady_all (m ∷ ms) h = (h 0 (omega arith), steady_all ms (λ k lt. h (suc k) (omega arith)))
 
--- the test for steady sets, both ways
-pub all_steady_is : (ms : List Meaning) → all_steady ms ≡ true → AllSteady ms
-all_steady_is [] e = tt
-all_steady_is (m ∷ ms) e =
-    let p = and_parts (is_steady m.mark) (all_steady ms) e in (is_then_steady m.mark p.0, all_steady_is ms p.1)
-
-pub steady_is_all : (ms : List Meaning) → AllSteady ms → all_steady ms ≡ true
-steady_is_all [] s = refl
-steady_is_all (m ∷ ms) s = and_from _ _ (steady_is m.mark s.0) (steady_is_all ms s.1)
-
 -- ---- seeking
-
--- a set that stands at t or past it
-pub sent_stay :
-    {B : Type 0} (t : ℕ) (rows : B → Rows) (old : Live B) (k d : ℕ) → Told (at (left rows old) k) d → t ≤ d → Sent t rows old old k
-sent_stay t rows old k d v le =
-    let m = at (left rows old) k in
-    record {
-      rises = λ s. v.rises (steady_known m.mark s);
-      becomes = λ s. settled m m.pairs s refl ∙ ap calm (sym (from_all t m.pairs (let e = v.tells s in omega arith)));
-      others = set_at (left rows old) k;
-      pays = omega arith;
-    }
-
-pub sent_none :
-    {B : Type 0} (t : ℕ) (rows : B → Rows) (old : Live B) (k d : ℕ) → Told (at (left rows old) k) d → get_or old.live k false ≡ false →
-    Sent t rows old old k
-sent_none t rows old k d v l =
-    let a = at_dead old.live (rows old.bank).places k l in
-    record {
-      rises = λ s. v.rises (steady_known (at (left rows old) k).mark s);
-      becomes = λ s. a ∙ ap (λ m. calm (from t m.pairs)) (sym a);
-      others = set_at (left rows old) k;
-      pays = omega arith;
-    }
 
 pub sent_live :
     {B : Type 0} (t : ℕ) (rows : B → Rows) (old new : Live B) (k d r : ℕ) → Told (at (left rows old) k) d → live_at old.live k →

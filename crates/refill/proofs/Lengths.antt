@@ -5,35 +5,12 @@ use Rattle.combiner.specs.declared.score_combiner.Tally.{Tally}
 use Rattle.combiner.specs.Cells.{Cell, none, puts, slots, count}
 use Rattle.std.proofs.lemmas.Bool.{cases_lt}
 use Rattle.docset.specs.Meaning.{Meaning, Pair}
-use Rattle.live.specs.Kept.{kept, due}
+use Rattle.live.proofs.Thresholds.{total, count_united}
 use Rattle.live.specs.Lists.{scores_in, scores_at, united}
 use Rattle.combiner.proofs.Cells.{count_none, count_step, filled, count_more}
 use Rattle.refill.specs.Refills.{reach}
 use Rattle.refill.specs.State.{ahead}
 use Rattle.refill.proofs.States.{ahead_in, ahead_out}
-
-abbrev pub total : List Meaning → ℕ
-total [] = 0
-total (m ∷ ms) = length m.pairs + total ms
-
--- the ids of a list, each once, are no more than its pairs
-count_list : (f : Tally → Float → Tally) (ps : List Pair) (ys : ℕ → List Float) (lo n : ℕ) → count (λ d. puts f none (scores_in d ps ++ ys d)) lo n ≤ length ps + count (λ d. puts f none (ys d)) lo n
-count_list f [] ys lo n = omega arith
-count_list f (p ∷ ps) ys lo n =
-    let ih = count_list f ps ys lo n in
-    let m = count_more (λ d. puts f none (scores_in d ps ++ ys d)) (λ d. puts f none (scores_in d (p ∷ ps) ++ ys d)) p.id lo n (λ e ne. let t = ne_eqb p.id e (λ q. ne (sym q)) in rw t) in
-    omega arith
-
-pub count_united : (f : Tally → Float → Tally) (ms : List Meaning) (lo n : ℕ) → count (united f ms) lo n ≤ total ms
-count_united f [] lo n = let z = count_none (united f []) lo n (λ e g l. refl) in omega arith
-count_united f (m ∷ ms) lo n = let a = count_list f m.pairs (λ d. scores_at d ms) lo n in let b = count_united f ms lo n in omega arith
-
-pub total_kept : (bs : List Bool) (ms : List Meaning) → total (kept bs ms) ≤ due bs ms
-total_kept [] ms = omega arith
-total_kept (true ∷ bs) [] = let h = total_kept bs [] in omega arith
-total_kept (false ∷ bs) [] = let h = total_kept bs [] in omega arith
-total_kept (true ∷ bs) (m ∷ ms) = let h = total_kept bs ms in omega arith
-total_kept (false ∷ bs) (m ∷ ms) = let h = total_kept bs ms in omega arith
 
 -- one cell more in front, or less
 pub count_zero : (a : ℕ → Cell) (lo : ℕ) → count a lo 0 ≡ 0

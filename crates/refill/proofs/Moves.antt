@@ -14,7 +14,8 @@ use Rattle.refill.specs.Refills.{AllSound, Refilled, reach}
 use Rattle.refill.specs.State.{settled, bound, ahead, standing, on, union_meaning, Opened}
 use Rattle.combiner.proofs.Cells.{count_none, listed_none, listed_rises, length_listed, count_less}
 use Rattle.refill.proofs.States.{pop_list, union_low, spent_list, filled_list, filled_some, settled_passed, settled_is, settled_by, bound_on, bound_end}
-use Rattle.refill.proofs.Lengths.{total, ahead_small}
+use Rattle.live.proofs.Thresholds.{total}
+use Rattle.refill.proofs.Lengths.{ahead_small}
 
 pub is_calm : (f : Tally → Float → Tally) (tell : Tally → Float) (s doc : ℕ) (x : Float) (a : ℕ → Cell) (ms : List Meaning) (cr : ℕ) → settled (bound s doc) ms ≡ true → union_meaning f tell s doc x a ms cr ≡ calm (standing tell (ahead f s a ms) doc x)
 unfolding union_meaning

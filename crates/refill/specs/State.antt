@@ -8,7 +8,7 @@ use Rattle.live.specs.Sets.{lowest_of, AllSteady, AllRising, all_steady, passed}
 use Rattle.live.specs.Lists.{united, union_list}
 use Rattle.live.specs.Kept.{kept, due}
 use Rattle.window.specs.declared.window.Window.{Window}
-use Rattle.window.specs.Windows.{held}
+use Rattle.window.specs.Windows.{cells}
 use Rattle.refill.specs.Refills.{reach}
 
 -- ---- what it means
@@ -47,7 +47,7 @@ union_meaning take tell s doc x a ms n =
 abbrev pub union_means :
     (Tally → Float → Tally) → (Tally → Float) → ℕ → ℕ → Float → Window → List Bool → List Meaning → Meaning
 union_means take tell s doc x w live P =
-    union_meaning take tell s doc x (held w.words w.tallies) (kept live P) (due live P)
+    union_meaning take tell s doc x (cells w) (kept live P) (due live P)
 
 -- ---- how far it has read
 

@@ -1,14 +1,14 @@
-ghost use Rattle.std.specs.Prelude.{◌≡◌, ◌+◌, ◌≤◌, set, slice_set};
+ghost use Rattle.std.specs.Prelude.{◌≡◌, ◌+◌, ◌≤◌, slice_set};
 ghost use Rattle.bank.specs.Places.{at};
 ghost use Rattle.combiner.specs.Cells.{count};
-ghost use Rattle.live.specs.Kept.{kept, due};
-ghost use Rattle.window.specs.Windows.{held};
+ghost use Rattle.live.specs.Views.{left, awaited};
+ghost use Rattle.window.specs.Windows.{cells};
 ghost use Rattle.refill.specs.Refills.{reach, Poured, Refilled};
 
 use bank::bank::Bank;
 use combiner::score_combiner::ScoreCombiner;
 use docset::docset::TERMINATED;
-use live::live::Live;
+use live::live::{Live, MOST};
 use window::window::{HORIZON, Window};
 
 // Where a window that starts at this id ends.
@@ -29,9 +29,9 @@ fn pour<B: Bank, C: ScoreCombiner>(
 )
     requires top { end ≤ 2147483647 }
     requires span { end ≤ start + 4096 }
-    ensures poured { Poured (C.ScoreCombiner.taken combiner.now) start end (at (kept sets.old.live (B.Bank.places sets.old.bank)) place) (at (kept sets.new.live (B.Bank.places sets.new.bank)) place) (held window.old.words window.old.tallies) (held window.new.words window.new.tallies) }
-    ensures others { kept sets.new.live (B.Bank.places sets.new.bank) ≡ slice_set (kept sets.old.live (B.Bank.places sets.old.bank)) place (at (kept sets.new.live (B.Bank.places sets.new.bank)) place) }
-    ensures pays { count (held window.new.words window.new.tallies) 0 4096 + due sets.new.live (B.Bank.places sets.new.bank) ≤ count (held window.old.words window.old.tallies) 0 4096 + due sets.old.live (B.Bank.places sets.old.bank) }
+    ensures poured { Poured (C.ScoreCombiner.taken combiner.now) start end (at (left B.Bank.rows sets.old) place) (at (left B.Bank.rows sets.new) place) (cells window.old) (cells window.new) }
+    ensures others { left B.Bank.rows sets.new ≡ slice_set (left B.Bank.rows sets.old) place (at (left B.Bank.rows sets.new) place) }
+    ensures pays { count (cells window.new) 0 4096 + awaited B.Bank.rows sets.new ≤ count (cells window.old) 0 4096 + awaited B.Bank.rows sets.old }
 {
     let mut doc = sets.doc_at(place);
     while doc < end {
@@ -51,11 +51,11 @@ pub fn refill<B: Bank, C: ScoreCombiner>(
     combiner: &C,
     start: u32,
 )
-    ensures filled { Refilled (C.ScoreCombiner.taken combiner.now) start (reach start) (kept sets.old.live (B.Bank.places sets.old.bank)) (kept sets.new.live (B.Bank.places sets.new.bank)) (held window.old.words window.old.tallies) (held window.new.words window.new.tallies) }
-    ensures pays { count (held window.new.words window.new.tallies) 0 4096 + due sets.new.live (B.Bank.places sets.new.bank) ≤ count (held window.old.words window.old.tallies) 0 4096 + due sets.old.live (B.Bank.places sets.old.bank) }
+    ensures filled { Refilled (C.ScoreCombiner.taken combiner.now) start (reach start) (left B.Bank.rows sets.old) (left B.Bank.rows sets.new) (cells window.old) (cells window.new) }
+    ensures pays { count (cells window.new) 0 4096 + awaited B.Bank.rows sets.new ≤ count (cells window.old) 0 4096 + awaited B.Bank.rows sets.old }
 {
     let end = horizon(start);
-    for place in 0..32 {
+    for place in 0..MOST {
         pour(sets, place, window, combiner, start, end);
     }
 }

@@ -7,19 +7,19 @@ use Rattle.window.specs.declared.window.Window.{Window}
 use Rattle.union.specs.declared.buffered_union.BufferedUnionScorer.{BufferedUnionScorer}
 use Rattle.combiner.specs.Cells.{Cell, none, count}
 use Rattle.combiner.proofs.Cells.{count_none, listed_none}
-use Rattle.window.specs.Windows.{held, Next, Ended, Wiped}
+use Rattle.window.specs.Windows.{cells, Next, Ended, Wiped}
 use Rattle.std.proofs.lemmas.Bool.{cases_lt, cases_eq}
 use Rattle.window.proofs.Held.{slot_none, none_slot}
 use Rattle.docset.specs.Meaning.{Meaning, TERM, Steady, calm, from, first_id}
-use Rattle.bank.specs.Places.{at}
+use Rattle.bank.specs.Places.{Rows, at}
 use Rattle.live.specs.Sets.{AllSteady, AllRising, lowest_of, passed}
 use Rattle.live.specs.Lists.{united}
-use Rattle.live.specs.Kept.{kept}
+use Rattle.live.specs.Views.{left, awaited}
 use Rattle.live.specs.declared.live.Live.{Live}
 use Rattle.live.proofs.Keeps.{at_outside, steady_all, steady_at, length_kept}
 use Rattle.refill.specs.Refills.{reach, Refilled}
 use Rattle.refill.specs.State.{union_meaning, union_means, Opened, Anew}
-use Rattle.refill.proofs.Lengths.{total}
+use Rattle.live.proofs.Thresholds.{total}
 use Rattle.refill.proofs.States.{bound_end, union_low}
 use Rattle.refill.proofs.Moves.{first_is, idle_calm, opened_none, small}
 use Rattle.refill.proofs.Reaches.{passed_same, anew_none}
@@ -27,17 +27,14 @@ use Rattle.refill.proofs.Reaches.{passed_same, anew_none}
 -- ---- a union as it stands
 
 -- what it means, as its `meaning` says it
-abbrev pub meant : {B C : Type 0} → (B → List Meaning) → (C → Tally → Float → Tally) → (C → Tally → Float) → BufferedUnionScorer B C → Meaning
-meant places take tell u =
-    union_means (take u.combiner) (tell u.combiner) u.start u.doc u.score u.window u.sets.live (places u.sets.bank)
+abbrev pub meant : {B C : Type 0} → (B → Rows) → (C → Tally → Float → Tally) → (C → Tally → Float) → BufferedUnionScorer B C → Meaning
+meant rows take tell u =
+    union_means (take u.combiner) (tell u.combiner) u.start u.doc u.score u.window u.sets.live (rows u.sets.bank).places
 
 -- and with another window
-abbrev pub meant_with : {B C : Type 0} → (B → List Meaning) → (C → Tally → Float → Tally) → (C → Tally → Float) → BufferedUnionScorer B C → Window → Meaning
-meant_with places take tell u v =
-    union_means (take u.combiner) (tell u.combiner) u.start u.doc u.score v u.sets.live (places u.sets.bank)
-
-abbrev pub cells : Window → ℕ → Cell
-cells v = held v.words v.tallies
+abbrev pub meant_with : {B C : Type 0} → (B → Rows) → (C → Tally → Float → Tally) → (C → Tally → Float) → BufferedUnionScorer B C → Window → Meaning
+meant_with rows take tell u v =
+    union_means (take u.combiner) (tell u.combiner) u.start u.doc u.score v u.sets.live (rows u.sets.bank).places
 
 pub none_before : {B C : Type 0} (u : BufferedUnionScorer B C) (k : ℕ) → u.start + k ≤ u.doc → cells u.window k ≡ none
 none_before u k l = slot_none u.window.words u.window.tallies k (u.before k l)
@@ -151,11 +148,10 @@ opened_nothing f tell P Q a b c low x cr cr1 le rises lowest z v n pays tot =
     (cases_lt low TERM)
 
 -- a bank of at most 32 sets, of which none is known to have ended but those that have
-pub live_alike : {B : Type 0} (places : B → List Meaning) (bank : B) (v : Live B) → length (places bank) ≤ 32 → v.bank ≡ bank
-    → ((k : ℕ) → k < 32 → at (kept v.live (places bank)) k ≡ at (places bank) k) → (k : ℕ) → at (kept v.live (places v.bank)) k ≡ at (places bank) k
-live_alike places bank v few q apt k =
-    ap (λ x. at (kept v.live (places x)) k) q ∙
-    ⊎_elim (apt k) (λ l. let h = length_kept v.live (places bank) in let n = v.count in at_outside (kept v.live (places bank)) k (omega arith) ∙ sym (at_outside (places bank) k (omega arith))) (cases_lt k 32)
+pub live_alike : {B : Type 0} (rows : B → Rows) (bank : B) (v : Live B) → length (rows bank).places ≤ 32
+    → ((k : ℕ) → k < 32 → at (left rows v) k ≡ at (rows bank).places k) → (k : ℕ) → at (left rows v) k ≡ at (rows bank).places k
+live_alike rows bank v few apt k =
+    ⊎_elim (apt k) (λ l. let h = length_kept v.live (rows v.bank).places in let n = v.count in at_outside (left rows v) k (omega arith) ∙ sym (at_outside (rows bank).places k (omega arith))) (cases_lt k 32)
 
 pub alike_steady : (Q P : List Meaning) → ((k : ℕ) → at Q k ≡ at P k) → AllSteady P → AllSteady Q
 alike_steady Q P e s = steady_all Q (λ k l. subst Steady (sym (e k)) (steady_at P k s))

@@ -1,3 +1,5 @@
+use Rattle.bank.specs.Places.{Rows}
+use Rattle.live.specs.Views.{awaited}
 -- One turn of a block: the current document is written, then what is drained of the window, and the union goes on.
 use Rattle.std.proofs.Common.{◌≡◌, ℕ, suc, ◌+◌, ◌<◌, ◌≤◌, true, List, length, drop, sym, ap, ◌∙◌, subst, arith}
 use Rattle.std.proofs.lemmas.List.{drop-drop}
@@ -9,28 +11,28 @@ use Rattle.combiner.specs.declared.score_combiner.Tally.{Tally}
 use Rattle.combiner.specs.Cells.{slots}
 use Rattle.live.specs.Kept.{due}
 use Rattle.window.specs.declared.window.Window.{Window}
-use Rattle.window.specs.Windows.{Wiped, shifted}
+use Rattle.window.specs.Windows.{cells, Wiped, shifted}
 use Rattle.refill.specs.State.{bound, settled, Reads, ReadsThrough, trail}
 use Rattle.refill.proofs.Reaches.{through_trail}
 use Rattle.refill.proofs.Drains.{Skims, skims, skims_shorter, through_within}
 use Rattle.union.specs.declared.buffered_union.BufferedUnionScorer.{BufferedUnionScorer}
 use Rattle.union.specs.Reading.{left_of}
-use Rattle.union.proofs.Ghosts.{cells, meant, meant_with, none_before, none_past}
+use Rattle.union.proofs.Ghosts.{meant, meant_with, none_before, none_past}
 
 -- the slots below `reach` are taken out, and v is left of the window
-pub drained : {B C : Type 0} (places : B → List Meaning) (take : C → Tally → Float → Tally) (tell : C → Tally → Float) (u : BufferedUnionScorer B C) (v : Window) (reach : ℕ)
-    → u.doc < TERM → reach ≤ 4096 → Wiped (cells u.window) (cells v) reach → Steady (meant places take tell u)
-    → Skims (meant places take tell u) (meant_with places take tell u v) (shifted u.start (slots (cells u.window) 0 reach)) (bound u.start u.doc)
-drained places take tell u v reach lt le w =
-    skims (take u.combiner) (tell u.combiner) u.start u.doc reach u.score (cells u.window) (cells v) (left_of places u) (due u.sets.live (places u.sets.bank))
+pub drained : {B C : Type 0} (rows : B → Rows) (take : C → Tally → Float → Tally) (tell : C → Tally → Float) (u : BufferedUnionScorer B C) (v : Window) (reach : ℕ)
+    → u.doc < TERM → reach ≤ 4096 → Wiped (cells u.window) (cells v) reach → Steady (meant rows take tell u)
+    → Skims (meant rows take tell u) (meant_with rows take tell u v) (shifted u.start (slots (cells u.window) 0 reach)) (bound u.start u.doc)
+drained rows take tell u v reach lt le w =
+    skims (take u.combiner) (tell u.combiner) u.start u.doc reach u.score (cells u.window) (cells v) (left_of rows u) (awaited rows u.sets)
     u.begun lt (u.span lt) le (none_before u) (none_past u) w
 
-pub drained_shorter : {B C : Type 0} (places : B → List Meaning) (take : C → Tally → Float → Tally) (tell : C → Tally → Float) (u : BufferedUnionScorer B C) (v : Window) (reach : ℕ)
+pub drained_shorter : {B C : Type 0} (rows : B → Rows) (take : C → Tally → Float → Tally) (tell : C → Tally → Float) (u : BufferedUnionScorer B C) (v : Window) (reach : ℕ)
     → u.doc < TERM → reach ≤ 4096 → Wiped (cells u.window) (cells v) reach
-    → length (meant_with places take tell u v).pairs ≤ length (meant places take tell u).pairs
-drained_shorter places take tell u v reach lt le w =
-    skims_shorter (take u.combiner) (tell u.combiner) u.start u.doc reach u.score (cells u.window) (cells v) (left_of places u) (due u.sets.live (places u.sets.bank))
-    (λ s. (shifted u.start (slots (cells u.window) 0 reach), (bound u.start u.doc, drained places take tell u v reach lt le w s))) w
+    → length (meant_with rows take tell u v).pairs ≤ length (meant rows take tell u).pairs
+drained_shorter rows take tell u v reach lt le w =
+    skims_shorter (take u.combiner) (tell u.combiner) u.start u.doc reach u.score (cells u.window) (cells v) (left_of rows u) (awaited rows u.sets)
+    (λ s. (shifted u.start (slots (cells u.window) 0 reach), (bound u.start u.doc, drained rows take tell u v reach lt le w s))) w
 
 -- how far the sets are read: i ids were written of the list m before the turn, and r = i + 1 + k after it
 pub through_turn : (h i k r c d s d1 d2 s1 : ℕ) (m l n o : Meaning) (xs old new new2 : List ℕ) (P Q R : List Meaning)

@@ -5,7 +5,8 @@ ghost use Rattle.combiner.specs.Estimate.{union_estimate};
 ghost use Rattle.bank.specs.Places.{at};
 ghost use Rattle.live.specs.Sets.{AllSteady, lowest_of};
 ghost use Rattle.live.specs.Lists.{union_list};
-ghost use Rattle.live.specs.Kept.{due, chosen, capped_sum};
+ghost use Rattle.live.specs.Kept.{capped_sum};
+ghost use Rattle.live.specs.Views.{awaited, live_hints, live_prices};
 ghost use Rattle.refill.specs.Refills.{reach};
 ghost use Rattle.refill.specs.State.{bound, union_means, Opened, Anew};
 ghost use Rattle.union.specs.Builds.{union_refusal};
@@ -27,10 +28,10 @@ const MOST: usize = 32;
 impl<B: Bank, C: ScoreCombiner> BufferedUnionScorer<B, C> {
     // Opens a window at the lowest id of the sets, and takes its first document. What the old window still held is dropped.
     fn open(&mut self) -> u32
-        ensures opened { Opened (C.ScoreCombiner.taken self.old.combiner) (C.ScoreCombiner.told self.old.combiner) (left_of B.Bank.places self.old) (due self.old.sets.live (B.Bank.places self.old.sets.bank)) (⟦<BufferedUnionScorer<B, C> as DocSet>⟧.meaning self.new) result }
+        ensures opened { Opened (C.ScoreCombiner.taken self.old.combiner) (C.ScoreCombiner.told self.old.combiner) (left_of B.Bank.rows self.old) (awaited B.Bank.rows self.old.sets) (⟦<BufferedUnionScorer<B, C> as DocSet>⟧.meaning self.new) result }
         ensures stands { self.new.doc ≡ result }
         ensures docs { self.new.num_docs ≡ self.old.num_docs }
-        ensures anew { Anew (left_of B.Bank.places self.old) (left_of B.Bank.places self.new) self.new.start result }
+        ensures anew { Anew (left_of B.Bank.rows self.old) (left_of B.Bank.rows self.new) self.new.start result }
     {
         self.window.skip(HORIZON_NUM_TINYBITSETS);
         let low = self.sets.lowest();
@@ -58,14 +59,14 @@ impl<B: Bank, C: ScoreCombiner> BufferedUnionScorer<B, C> {
         combiner: C,
         num_docs: u32,
     ) -> (Option<Refusal>, BufferedUnionScorer<B, C>)
-        ensures refuses { result.0 ≡ union_refusal (length (B.Bank.places bank)) }
-        ensures lists { length (B.Bank.places bank) ≤ 32 → AllSteady (B.Bank.places bank) → ⟦<BufferedUnionScorer<B, C> as DocSet>⟧.meaning result.1 ≡ calm (union_list (C.ScoreCombiner.taken combiner) (C.ScoreCombiner.told combiner) (B.Bank.places bank)) }
-        ensures reads { length (B.Bank.places bank) ≤ 32 → AllSteady (B.Bank.places bank) → (k : ℕ) → at (left_of B.Bank.places result.1) k ≡ calm (from (reach (lowest_of (B.Bank.places bank))) (at (B.Bank.places bank) k).pairs) }
-        ensures docs { length (B.Bank.places bank) ≤ 32 → result.1.num_docs ≡ num_docs }
-        ensures empty { 32 < length (B.Bank.places bank) → ⟦<BufferedUnionScorer<B, C> as DocSet>⟧.meaning result.1 ≡ calm [] }
-        ensures unread { 32 < length (B.Bank.places bank) → result.1.sets.bank ≡ bank }
-        ensures hint { 32 < length (B.Bank.places bank) → ⟦<BufferedUnionScorer<B, C> as DocSet>⟧.hint result.1 ≡ 0 }
-        ensures cost { 32 < length (B.Bank.places bank) → ⟦<BufferedUnionScorer<B, C> as DocSet>⟧.price result.1 ≡ 0 }
+        ensures refuses { result.0 ≡ union_refusal (length (B.Bank.rows bank).places) }
+        ensures lists { length (B.Bank.rows bank).places ≤ 32 → AllSteady (B.Bank.rows bank).places → ⟦<BufferedUnionScorer<B, C> as DocSet>⟧.meaning result.1 ≡ calm (union_list (C.ScoreCombiner.taken combiner) (C.ScoreCombiner.told combiner) (B.Bank.rows bank).places) }
+        ensures reads { length (B.Bank.rows bank).places ≤ 32 → AllSteady (B.Bank.rows bank).places → (k : ℕ) → at (left_of B.Bank.rows result.1) k ≡ calm (from (reach (lowest_of (B.Bank.rows bank).places)) (at (B.Bank.rows bank).places k).pairs) }
+        ensures docs { length (B.Bank.rows bank).places ≤ 32 → result.1.num_docs ≡ num_docs }
+        ensures empty { 32 < length (B.Bank.rows bank).places → ⟦<BufferedUnionScorer<B, C> as DocSet>⟧.meaning result.1 ≡ calm [] }
+        ensures unread { 32 < length (B.Bank.rows bank).places → result.1.sets.bank ≡ bank }
+        ensures hint { 32 < length (B.Bank.rows bank).places → ⟦<BufferedUnionScorer<B, C> as DocSet>⟧.hint result.1 ≡ 0 }
+        ensures cost { 32 < length (B.Bank.rows bank).places → ⟦<BufferedUnionScorer<B, C> as DocSet>⟧.price result.1 ≡ 0 }
     {
         let window = Window::new();
         if bank.len() > MOST {
@@ -100,7 +101,7 @@ impl<B: Bank, C: ScoreCombiner> BufferedUnionScorer<B, C> {
     fn walk_to(&mut self, target: u32) -> u32
         requires { target ≤ bound self.old.start self.old.doc }
         ensures sought { Sought target (⟦<BufferedUnionScorer<B, C> as DocSet>⟧.meaning self.old) (⟦<BufferedUnionScorer<B, C> as DocSet>⟧.meaning self.new) result }
-        ensures reads { reads_on B.Bank.places self.old self.new }
+        ensures reads { reads_on B.Bank.rows self.old self.new }
         ensures docs { self.new.num_docs ≡ self.old.num_docs }
     {
         let mut doc = self.doc;
@@ -112,11 +113,11 @@ impl<B: Bank, C: ScoreCombiner> BufferedUnionScorer<B, C> {
 }
 
 impl<B: Bank, C: ScoreCombiner> DocSet for BufferedUnionScorer<B, C> {
-    ghost meaning = { λ u. union_means (C.ScoreCombiner.taken u.combiner) (C.ScoreCombiner.told u.combiner) u.start u.doc u.score u.window u.sets.live (B.Bank.places u.sets.bank) };
+    ghost meaning = { λ u. union_means (C.ScoreCombiner.taken u.combiner) (C.ScoreCombiner.told u.combiner) u.start u.doc u.score u.window u.sets.live (B.Bank.rows u.sets.bank).places };
 
-    ghost hint = { λ u. union_estimate (chosen 0 u.sets.live (B.Bank.hints u.sets.bank)) u.num_docs };
+    ghost hint = { λ u. union_estimate (live_hints B.Bank.rows u.sets) u.num_docs };
 
-    ghost price = { λ u. capped_sum (chosen 0 u.sets.live (B.Bank.prices u.sets.bank)) };
+    ghost price = { λ u. capped_sum (live_prices B.Bank.rows u.sets) };
 
     fn doc(&self) -> u32 {
         self.doc
@@ -125,7 +126,7 @@ impl<B: Bank, C: ScoreCombiner> DocSet for BufferedUnionScorer<B, C> {
     // The next document of the window, or of a new one.
     fn advance(&mut self) -> u32
         ensures moves { Moved (⟦<Self as DocSet>⟧.meaning self.old) (⟦<Self as DocSet>⟧.meaning self.new) result }
-        ensures reads { reads_on B.Bank.places self.old self.new }
+        ensures reads { reads_on B.Bank.rows self.old self.new }
         ensures docs { self.new.num_docs ≡ self.old.num_docs }
         ensures stands { self.new.doc ≡ result }
     {
@@ -145,7 +146,7 @@ impl<B: Bank, C: ScoreCombiner> DocSet for BufferedUnionScorer<B, C> {
     // Within the window the words before the target's are emptied; past it the sets are sought, and a window is opened there.
     fn seek(&mut self, target: u32) -> u32
         ensures moves { Sought target (⟦<Self as DocSet>⟧.meaning self.old) (⟦<Self as DocSet>⟧.meaning self.new) result }
-        ensures reads { reads_on B.Bank.places self.old self.new }
+        ensures reads { reads_on B.Bank.rows self.old self.new }
         ensures docs { self.new.num_docs ≡ self.old.num_docs }
     {
         if self.doc >= target || self.doc == TERMINATED {
@@ -178,7 +179,7 @@ impl<B: Bank, C: ScoreCombiner> DocSet for BufferedUnionScorer<B, C> {
     // Writes ids straight from the window's words. A turn is a window and not a place of the buffer, so this is no loop over the buffer.
     fn fill_buffer(&mut self, buffer: &mut [u32; 64]) -> usize
         ensures moves { Filled (⟦<Self as DocSet>⟧.meaning self.old) (⟦<Self as DocSet>⟧.meaning self.new) buffer.old buffer.new result }
-        ensures reads { reads_through B.Bank.places result (⟦<Self as DocSet>⟧.meaning self.old).pairs self.old self.new }
+        ensures reads { reads_through B.Bank.rows result (⟦<Self as DocSet>⟧.meaning self.old).pairs self.old self.new }
         ensures docs { self.new.num_docs ≡ self.old.num_docs }
     {
         let mut filled: usize = 0;

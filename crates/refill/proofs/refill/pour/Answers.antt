@@ -1,8 +1,9 @@
 use Rattle.std.proofs.Common.{false, get_or, sym, refl, ap, ◌∙◌, subst, arith}
-use Rattle.window.specs.Windows.{held}
+use Rattle.window.specs.Windows.{cells}
 use Rattle.window.specs.declared.window.Window.{Window}
 use Rattle.bank.specs.Places.{at}
-use Rattle.live.specs.Kept.{kept, live_at}
+use Rattle.live.specs.Kept.{live_at}
+use Rattle.live.specs.Views.{left}
 use Rattle.live.proofs.Keeps.{set_at}
 use Rattle.refill.proofs.Pours.{pouring_more, poured, Turned, turned_put, turned_skip, set_on}
 use Rattle.refill.proofs.refill.pour.Goals.{then-start-doc, else-start-doc}
@@ -12,7 +13,7 @@ pub loop-doc-init : goal.loop-doc-init
 loop-doc-init g c =
     let t = c.doc_at-doc.ensures.told in (
       record { an_id = t.an_id; still = λ s. s; list = λ s. refl; tells = λ s. t.tells s.0; due = λ s e l. refl; outside = λ e l. refl },
-      set_at (kept c.args.sets.now.live (g.B.Bank.places c.args.sets.now.bank)) c.args.place,
+      set_at (left g.B.Bank.rows c.args.sets.now) c.args.place,
       omega arith,
       c.doc_at-doc.ensures.live,
     )
@@ -21,16 +22,16 @@ pub loop-doc-preserved : goal.loop-doc-preserved
 loop-doc-preserved g c =
     let i = c.args.place in
     let f = g.C.ScoreCombiner.taken c.args.combiner.now in
-    let P = kept c.args.sets.now.live (g.B.Bank.places c.args.sets.now.bank) in
-    let Q = kept c.loop-doc.sets.live (g.B.Bank.places c.loop-doc.sets.bank) in
-    let R = kept c.wanted_score-score.new.self.live (g.B.Bank.places c.wanted_score-score.new.self.bank) in
-    let S = kept c.advance_at-doc.new.self.live (g.B.Bank.places c.advance_at-doc.new.self.bank) in
+    let P = left g.B.Bank.rows c.args.sets.now in
+    let Q = left g.B.Bank.rows c.loop-doc.sets in
+    let R = left g.B.Bank.rows c.wanted_score-score.new.self in
+    let S = left g.B.Bank.rows c.advance_at-doc.new.self in
     let v = c.loop-doc.invariant in
     let k = c.wanted_score-score.ensures in
     let a = c.advance_at-doc.ensures in
     let lt = c.loop-doc-test.true in
     let ht = c.requires.top in
-    let F : Window → Type 0 = λ w. Turned f c.args.start c.args.end c.loop-doc.doc (at Q i) (held c.loop-doc.window.words c.loop-doc.window.tallies) (held w.words w.tallies) in
+    let F : Window → Type 0 = λ w. Turned f c.args.start c.args.end c.loop-doc.doc (at Q i) (cells c.loop-doc.window) (cells w) in
     let T : F c.if-start-doc.window =
     elim c.if-start-doc.branch [
       | then-start-doc w ↦ subst F (sym w.window-is) (turned_put f c.args.start c.args.end c.loop-doc.doc (at Q i) c.wanted_score-score.result _ _ w.if-start-doc.true lt ht k.alike (w.insert.ensures.puts (let z = c.requires.span in let y = w.if-start-doc.true in omega arith)))

@@ -1,15 +1,9 @@
-use Rattle.std.proofs.Common.{sym, refl, ◌∙◌, arith}
-use Rattle.live.proofs.Keeps.{advances_live, advances_ended, advances_none, live_inside}
+use Rattle.std.proofs.Common.{sym, refl, ◌∙◌}
+use Rattle.live.proofs.Keeps.{advances_live, advances_ended, advances_none}
 use Rattle.live.proofs.live.Live.advance_at.Goals as goal
 
 pub returns-then-not-is_live : goal.returns-then-not-is_live
 returns-then-not-is_live g c = advances_none g.B.Bank.rows c.args.self.now c.args.place (sym c.is_live.ensures ∙ c.if-not-is_live.true)
-
-pub bounds-self-place : goal.bounds-self-place
-bounds-self-place g c =
-    let h = live_inside c.args.self.now.live c.args.place (sym c.is_live.ensures ∙ c.if-not-is_live.false) in
-    let n = c.args.self.now.count in
-    omega arith
 
 pub returns-then-doc-eq-TERMINATED : goal.returns-then-doc-eq-TERMINATED
 returns-then-doc-eq-TERMINATED g c =

@@ -1,8 +1,8 @@
-use Rattle.std.proofs.Common.{◌≡◌, [], drop, sym, ap, subst, arith, below_more}
+use Rattle.std.proofs.Common.{◌≡◌, [], drop, sym, ap, subst, arith, below_more, drop_of_length-le}
 use Rattle.docset.specs.Meaning.{Known}
 use Rattle.live.specs.Sets.{lowest_of}
 use Rattle.live.specs.Views.{left}
-use Rattle.live.proofs.Keeps.{lowest_le, lowest_step, steady_at, drop_all, rising_all, length_kept}
+use Rattle.live.proofs.Keeps.{lowest_le, lowest_step, steady_at, rising_all, length_kept}
 use Rattle.live.proofs.live.Live.lowest.Goals as goal
 
 pub loop-place-init : goal.loop-place-init
@@ -33,5 +33,5 @@ returns-clause-low g c =
     let P = left g.B.Bank.rows c.args.self.now in
     let n = length_kept c.args.self.now.live (g.B.Bank.rows c.args.self.now.bank).places in
     let m = c.args.self.now.count in
-    let e : drop c.loop-place.place P ≡ [] = drop_all c.loop-place.place P (omega arith) in
+    let e : drop c.loop-place.place P ≡ [] = drop_of_length-le P {i = c.loop-place.place} (omega arith) in
     λ s. let v = (c.loop-place.invariant.1 s).0 in omega (arith, ap lowest_of e)

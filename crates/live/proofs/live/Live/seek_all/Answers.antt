@@ -3,9 +3,6 @@ use Rattle.live.specs.Kept.{kept}
 use Rattle.live.proofs.Keeps.{sending_more, part_all, rising_all, length_kept}
 use Rattle.live.proofs.live.Live.seek_all.Goals as goal
 
-pub loop-place-init : goal.loop-place-init
-loop-place-init g c = record { rises = λ s k l. absurd (omega arith); becomes = λ s. refl; pays = omega arith }
-
 pub loop-place-preserved : goal.loop-place-preserved
 loop-place-preserved g c = sending_more c.args.target c.loop-place.place g.B.Bank.rows _ _ _ c.loop-place.invariant c.send.ensures
 

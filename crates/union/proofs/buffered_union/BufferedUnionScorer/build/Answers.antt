@@ -1,3 +1,4 @@
+use Rattle.live.specs.Views.{left}
 use Rattle.std.proofs.Common.{ap, ◌∙◌, arith}
 use Rattle.docset.specs.Meaning.{Meaning, calm, from}
 use Rattle.bank.specs.Places.{at}
@@ -16,7 +17,7 @@ invariant_of-refused g c = fields_none 0 2147483647 c.new-window.result (omega a
 pub returns-then-len-gt-MOST-clause-empty : goal.returns-then-len-gt-MOST-clause-empty
 returns-then-len-gt-MOST-clause-empty g c l =
     let v = c.idle-sets.result in
-    let h = c.idle-sets.ensures.none (g.B.Bank.places v.bank) in
+    let h = c.idle-sets.ensures.none (g.B.Bank.rows v.bank).places in
     idle_calm _ _ 0 _ _ _ _ (idle_steady _ h) (idle_low _ h)
 
 pub invariant_of-scorer : goal.invariant_of-scorer
@@ -24,16 +25,16 @@ invariant_of-scorer g c = fields_none 0 0 c.new-window.result (omega arith) (ome
 
 pub returns-clause-lists : goal.returns-clause-lists
 returns-clause-lists g c few s =
-    let P = g.B.Bank.places c.args.bank in
-    let e = live_alike g.B.Bank.places c.args.bank c.new-sets.result few c.new-sets.ensures.bank (c.new-sets.ensures.apt s) in
+    let P = (g.B.Bank.rows c.args.bank).places in
+    let e = live_alike g.B.Bank.rows c.args.bank c.new-sets.result few (c.new-sets.ensures.apt s) in
     c.open.ensures.opened.becomes (alike_steady _ P e s) ∙ ap calm (union_alike (g.C.ScoreCombiner.taken c.args.combiner) (g.C.ScoreCombiner.told c.args.combiner) _ P e)
 
 pub returns-clause-reads : goal.returns-clause-reads
 returns-clause-reads g c few s k =
     let v = c.new-sets.result in
-    let P = g.B.Bank.places c.args.bank in
-    let Q = kept v.live (g.B.Bank.places v.bank) in
-    let e = live_alike g.B.Bank.places c.args.bank v few c.new-sets.ensures.bank (c.new-sets.ensures.apt s) in
+    let P = (g.B.Bank.rows c.args.bank).places in
+    let Q = left g.B.Bank.rows v in
+    let e = live_alike g.B.Bank.rows c.args.bank v few (c.new-sets.ensures.apt s) in
     let z = alike_steady Q P e s in
     ap (λ X. at X k) (c.open.ensures.anew.list z) ∙ at_passed_place (reach c.open.result) Q k ∙
     ap (λ x. calm (from (reach x) (at Q k).pairs)) (c.open.ensures.anew.lowest z ∙ lowest_alike Q P e) ∙

@@ -1,5 +1,5 @@
 use Rattle.std.proofs.Common.{◌<◌, refl, ◌∙◌, arith}
-use Rattle.refill.proofs.Lengths.{total_kept}
+use Rattle.live.proofs.Thresholds.{total_kept}
 use Rattle.refill.proofs.Moves.{opened_some}
 use Rattle.refill.proofs.Reaches.{anew_some}
 use Rattle.union.specs.Reading.{left_of}
@@ -18,7 +18,7 @@ invariant_of-self-in-None g c =
 
 pub returns-in-Some : goal.returns-in-Some
 returns-in-Some g c =
-    let P = left_of g.B.Bank.places c.args.self.now in
+    let P = left_of g.B.Bank.rows c.args.self.now in
     let l = c.lowest-low.ensures in
     let z = skipped_all _ _ c.skip.ensures.wiped c.skip.ensures.past in
     let v = c.refill.ensures in
@@ -30,7 +30,7 @@ returns-in-Some g c =
       docs = refl;
       anew = anew_some _ P _ _ _ _ c.lowest-low.result c.in-Some.delta c.in-Some.tally l.rises l.low low z v.filled n;
       opened = opened_some _ _ P _ _ _ _ c.lowest-low.result c.in-Some.delta c.in-Some.tally _ _ l.rises l.low low z v.filled n v.pays
-          (total_kept c.refill.new.sets.live (g.B.Bank.places c.refill.new.sets.bank));
+          (total_kept c.refill.new.sets.live (g.B.Bank.rows c.refill.new.sets.bank).places);
     })
 
 pub returns-in-None : goal.returns-in-None
@@ -38,6 +38,6 @@ returns-in-None g c =
     let l = c.lowest-low.ensures in
     let z = skipped_all _ _ c.skip.ensures.wiped c.skip.ensures.past in
     let v = c.refill.ensures in
-    let o = opened_nothing _ _ (left_of g.B.Bank.places c.args.self.now) _ _ _ _ c.lowest-low.result _ _ _ l.an_id l.rises l.low z v.filled c.in-None.ensures v.pays
-    (total_kept c.refill.new.sets.live (g.B.Bank.places c.refill.new.sets.bank)) in
+    let o = opened_nothing _ _ (left_of g.B.Bank.rows c.args.self.now) _ _ _ _ c.lowest-low.result _ _ _ l.an_id l.rises l.low z v.filled c.in-None.ensures v.pays
+    (total_kept c.refill.new.sets.live (g.B.Bank.rows c.refill.new.sets.bank).places) in
     record { stands = refl; docs = refl; anew = o.1; opened = o.0 }

@@ -7,12 +7,12 @@ use Rattle.union.proofs.buffered_union.BufferedUnionScorer.walk_to.Given as goal
 abbrev pub invariant-loop-doc : goal.invariant-loop-doc
 invariant-loop-doc g l =
     Seeking l.target
-    (meant g.B.Bank.places g.C.ScoreCombiner.taken g.C.ScoreCombiner.told l.initial.self)
-    (meant g.B.Bank.places g.C.ScoreCombiner.taken g.C.ScoreCombiner.told l.self)
+    (meant g.B.Bank.rows g.C.ScoreCombiner.taken g.C.ScoreCombiner.told l.initial.self)
+    (meant g.B.Bank.rows g.C.ScoreCombiner.taken g.C.ScoreCombiner.told l.self)
     l.doc
-    × reads_on g.B.Bank.places l.initial.self l.self
+    × reads_on g.B.Bank.rows l.initial.self l.self
     × (l.self.doc ≡ l.doc)
     × (l.self.num_docs ≡ l.initial.self.num_docs)
 
 abbrev pub decreases-loop-doc : goal.decreases-loop-doc
-decreases-loop-doc g l = ahead (meant g.B.Bank.places g.C.ScoreCombiner.taken g.C.ScoreCombiner.told l.self) l.doc
+decreases-loop-doc g l = ahead (meant g.B.Bank.rows g.C.ScoreCombiner.taken g.C.ScoreCombiner.told l.self) l.doc

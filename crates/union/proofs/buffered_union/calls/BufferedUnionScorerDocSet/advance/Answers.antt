@@ -1,7 +1,8 @@
+use Rattle.window.specs.Windows.{cells}
 use Rattle.std.proofs.Common.{◌+◌, ◌<◌, ◌∙◌, arith}
 use Rattle.refill.proofs.Moves.{moved_stay, moved_next, moved_open}
 use Rattle.refill.proofs.Reaches.{reads_same, reads_next, reads_anew}
-use Rattle.union.proofs.Ghosts.{cells, none_before, none_past, fields_next, fields_none, next_inside}
+use Rattle.union.proofs.Ghosts.{none_before, none_past, fields_next, fields_none, next_inside}
 use Rattle.union.proofs.buffered_union.calls.BufferedUnionScorerDocSet.advance.Goals as goal
 
 pub returns-then-self-eq-TERMINATED-clause-moves : goal.returns-then-self-eq-TERMINATED-clause-moves

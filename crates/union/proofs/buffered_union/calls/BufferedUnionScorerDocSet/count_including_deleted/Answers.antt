@@ -1,3 +1,5 @@
+use Rattle.live.specs.Views.{awaited}
+use Rattle.window.specs.Windows.{cells}
 use Rattle.std.proofs.Common.{◌≡◌, ◌<◌, true, length, sym, refl, ap, ◌∙◌, arith}
 use Rattle.docset.specs.Meaning.{Steady, calm}
 use Rattle.docset.proofs.Lists.{short, ended, steady_known}
@@ -9,7 +11,7 @@ use Rattle.refill.proofs.States.{settled_is}
 use Rattle.refill.proofs.Moves.{told, is_settled}
 use Rattle.refill.proofs.Drains.{window_length, opened_less}
 use Rattle.union.specs.Reading.{left_of}
-use Rattle.union.proofs.Ghosts.{cells, meant, none_before, none_past}
+use Rattle.union.proofs.Ghosts.{meant, none_before, none_past}
 use Rattle.union.proofs.buffered_union.calls.BufferedUnionScorerDocSet.count_including_deleted.Goals as goal
 
 pub loop-doc-init : goal.loop-doc-init
@@ -32,7 +34,7 @@ loop-doc-smaller g c =
 
 pub loop-doc-preserved : goal.loop-doc-preserved
 loop-doc-preserved g c =
-    let places = g.B.Bank.places in
+    let rows = g.B.Bank.rows in
     let take = g.C.ScoreCombiner.taken in
     let tell = g.C.ScoreCombiner.told in
     let u = c.args.self in
@@ -41,13 +43,13 @@ loop-doc-preserved g c =
     let here = v.0 in
     let o = c.open-doc.ensures.opened in
     let lt : l.doc < 2147483647 = omega (arith, l.an_id, c.loop-doc-test.true) in
-    let set : Steady (meant places take tell u) → settled (bound l.start l.doc) (left_of places l) ≡ true = λ s. is_settled _ _ _ _ _ _ _ _ (v.1 s) in
-    let becomes : Steady (meant places take tell u) → meant places take tell c.open-doc.new.self ≡ calm (union_list (take l.combiner) (tell l.combiner) (left_of places l)) =
-    λ s. o.becomes (settled_is (bound l.start l.doc) (left_of places l) (set s)).0 in (
+    let set : Steady (meant rows take tell u) → settled (bound l.start l.doc) (left_of rows l) ≡ true = λ s. is_settled _ _ _ _ _ _ _ _ (v.1 s) in
+    let becomes : Steady (meant rows take tell u) → meant rows take tell c.open-doc.new.self ≡ calm (union_list (take l.combiner) (tell l.combiner) (left_of rows l)) =
+    λ s. o.becomes (settled_is (bound l.start l.doc) (left_of rows l) (set s)).0 in (
       c.open-doc.ensures.stands,
       (λ s. ap (λ x. x.mark) (becomes s)),
       (λ s.
-          let n = window_length (take l.combiner) (tell l.combiner) l.start l.doc l.score (cells l.window) (left_of places l) (due l.sets.live (places l.sets.bank)) l.begun lt (l.span lt)
+          let n = window_length (take l.combiner) (tell l.combiner) l.start l.doc l.score (cells l.window) (left_of rows l) (awaited rows l.sets) l.begun lt (l.span lt)
           (none_before l) (none_past l) o.rises (set s) in
           let m = ap (λ x. length x.pairs) (becomes s) in
           let t = v.2 s in
