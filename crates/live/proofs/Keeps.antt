@@ -381,3 +381,9 @@ idle_steady X h = steady_all X (λ k l. ap (λ m. m.mark) (h k))
 pub idle_low : (X : List Meaning) → ((k : ℕ) → at X k ≡ empty) → TERM ≤ lowest_of X
 idle_low [] h = omega arith
 idle_low (m ∷ X) h = let a = ap (λ m. first_id m.pairs) (h 0) in let b = idle_low X (λ k. h (suc k)) in omega arith
+
+-- of a bank of at most 32 sets each place reads as it was, if the first 32 do
+pub alike_places : {B : Type 0} (rows : B → Rows) (bank : B) (v : Live B) → length (rows bank).places ≤ 32
+    → ((k : ℕ) → k < 32 → at (left rows v) k ≡ at (rows bank).places k) → (k : ℕ) → at (left rows v) k ≡ at (rows bank).places k
+alike_places rows bank v few apt k =
+    ⊎_elim (apt k) (λ l. let h = length_kept v.live (rows v.bank).places in let n = v.count in at_outside (left rows v) k (omega arith) ∙ sym (at_outside (rows bank).places k (omega arith))) (cases_lt k 32)

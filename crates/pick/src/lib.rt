@@ -15,6 +15,7 @@ use std::alloc::{AllocError, Global};
 pub fn hits_of<S: Scorer>(heap: Global, mut set: S) -> Result<Vec<Hit>, AllocError>
     ensures { IfOk result (λ v. Steady (S.DocSet.meaning set) → v.items ≡ hits (S.DocSet.meaning set).pairs) }
 {
+    // A loop of the set's own calls: a set is no iterator, and its score is read before it goes on.
     let mut found = Vec::new(heap);
     let mut doc = set.doc();
     while doc != TERMINATED {

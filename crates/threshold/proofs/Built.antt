@@ -34,12 +34,6 @@ waiting_calm least step tell x P E room y =
 
 -- ---- one over the sets P, of which K are kept
 
-pub alike : (bs : List Bool) (P R : List Meaning) (n : ℕ) → length bs ≡ 32 → length P ≤ n → n ≤ 32 → R ≡ P → ((k : ℕ) → k < 32 → at (kept bs P) k ≡ at P k) → (k : ℕ) → at (kept bs R) k ≡ at P k
-alike bs P R n len le most q h k = ⊎_elim
-    (λ l. ap (λ X. at (kept bs X) k) q ∙ h k l)
-    (λ l. at_outside (kept bs R) k (let a = length_kept bs R in omega arith) ∙ sym (at_outside P k (omega arith)))
-    (cases_lt k 32)
-
 -- all entries of K
 pub all_loaded : (P K : List Meaning) (E : List Entry) (n i : ℕ) → ((k : ℕ) → at K k ≡ at P k) → AllSteady P → length P ≤ n → n ≤ i → Loading K E i → Ready K E
 all_loaded P K E n i e s le l v = loaded K E i v (steady_all K (λ k q. subst Steady (sym (e k)) (steady_at P k s))) (λ k q. e k ∙ at_outside P k (omega arith))

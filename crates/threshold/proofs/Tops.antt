@@ -7,6 +7,9 @@ use Rattle.docset.specs.Meaning.{Meaning, Pair, TERM, Rising, first_id}
 use Rattle.docset.proofs.Lists.{settled}
 use Rattle.bank.specs.Places.{at}
 use Rattle.heap.specs.declared.order.Entry.{Entry}
+use Rattle.std.specs.Ordering.{is_le, nat_cmp, ordering_then}
+use Rattle.std.specs.declared.cmp.Ordering.TheVariants.{Less, Equal, Greater}
+use Rattle.std.proofs.lemmas.Map.Keys.{le_from_is_le}
 use Rattle.heap.specs.Ranks.{lex}
 use Rattle.live.specs.Sets.{empty, lowest_of}
 use Rattle.live.specs.Kept.{none_left}
@@ -90,15 +93,12 @@ top_least P E e t r =
         }
 
 lex_below : (a i b j : ℕ) → lex a i b j ≡ true → (a < b) ⊎ ((a ≡ b) × (i ≤ j))
-lex_below a i b j h = go (ltb a b) refl h
+lex_below a i b j h = go (ltb a b) (eqb a b) refl refl h
   where
-    then : (c : Bool) → ltb b a ≡ c → b ≤ a → cond c false (leb i j) ≡ true → (a < b) ⊎ ((a ≡ b) × (i ≤ j))
-    then true e l x = absurd (both_ways false refl x)
-    then false e l x = let m = ltb-false b a e in inr (omega arith, leb-true i j x)
-
-    go : (c : Bool) → ltb a b ≡ c → cond c true (cond (ltb b a) false (leb i j)) ≡ true → (a < b) ⊎ ((a ≡ b) × (i ≤ j))
-    go true e x = inl (ltb-true a b e)
-    go false e x = then (ltb b a) refl (ltb-false a b e) x
+    go : (c d : Bool) → ltb a b ≡ c → eqb a b ≡ d → is_le (ordering_then (cond c Less (cond d Equal Greater)) (nat_cmp i j)) ≡ true → (a < b) ⊎ ((a ≡ b) × (i ≤ j))
+    go true d e f x = inl (ltb-true a b e)
+    go false true e f x = inr (eqb-true a b f, le_from_is_le i j x)
+    go false false e f x = absurd (both_ways false refl x)
 
 none_first : (ps : List Pair) → none_left ps ≡ true → first_id ps ≡ TERM
 none_first [] e = refl

@@ -54,7 +54,7 @@ pub record Heaped (xs : List Entry) (n : ℕ) : Type 0 where
   pub heap : IsHeap earlier First xs n
   pub ids : sum_by no_id (take n xs) ≡ 0
 
--- e is the top of the entries E: it has an id, and is earlier than each of them
+-- e is the top of the entries E, at most 32: it has an id, and is earlier than each of them
 pub record Tops (E : List Entry) (e : Entry) : Type 0 where
   pub some : 0 < length E
   pub few : length E ≤ 32

@@ -5,10 +5,11 @@ use Rattle.docset.specs.declared.refusal.Refusal.{Refusal}
 use Rattle.docset.specs.declared.refusal.Refusal.TheVariants.{TooManySets, MinimumZero}
 use Rattle.combiner.specs.declared.score_combiner.Tally.{Tally}
 use Rattle.heap.specs.declared.order.Entry.{Entry}
-use Rattle.live.specs.declared.live.Live.{Live}
 use Rattle.live.specs.Sets.{passed, lowest_of, all_steady, all_rising}
-use Rattle.live.specs.Kept.{kept, due, greatest}
+use Rattle.live.specs.Kept.{greatest}
 use Rattle.live.specs.Lists.{threshold_list}
+use Rattle.live.specs.Views.{left, awaited}
+use Rattle.bank.specs.Places.{Rows}
 use Rattle.threshold.specs.Entries.{matches, Ready}
 use Rattle.threshold.specs.declared.queue.Queue.{Queue}
 use Rattle.threshold.specs.declared.disjunction.Disjunction.{Disjunction}
@@ -46,26 +47,20 @@ means least take tell doc x es ms room =
 abbrev pub on : ℕ → Bool → ℕ
 on doc unread = cond (nat_lt doc TERM || unread) 1 0
 
+-- how many entries stand in the queue and how many answers may still come of its sets: with each document that a threshold comes to
+-- it is one less
+abbrev pub room : {B : Type 0} → (B → Rows) → Queue B → ℕ
+room rows q = length q.chains + awaited rows q.sets
+
 -- what the sets have left
-abbrev pub left : {B : Type 0} → (B → List Meaning) → Live B → List Meaning
-left places s = kept s.live (places s.bank)
-
--- how many answers may still come of them
-abbrev pub awaited : {B : Type 0} → (B → List Meaning) → Live B → ℕ
-awaited places s = due s.live (places s.bank)
-
--- and how many stand in the queue: with each document that a threshold comes to it has one less
-abbrev pub room : {B : Type 0} → (B → List Meaning) → Queue B → ℕ
-room places q = length q.chains + awaited places q.sets
-
-abbrev pub left_of : {B C : Type 0} → (B → List Meaning) → Disjunction B C → List Meaning
-left_of places d = left places d.queue.sets
+abbrev pub left_of : {B C : Type 0} → (B → Rows) → Disjunction B C → List Meaning
+left_of rows d = left rows d.queue.sets
 
 abbrev pub threshold_meaning :
-    {B C : Type 0} → (B → List Meaning) → (C → Tally → Float → Tally) → (C → Tally → Float) → Disjunction B C → Meaning
-threshold_meaning places take tell d =
-    means d.minimum (take d.combiner) (tell d.combiner) d.doc d.score d.queue.chains (left_of places d)
-    (on d.doc d.unread + room places d.queue)
+    {B C : Type 0} → (B → Rows) → (C → Tally → Float → Tally) → (C → Tally → Float) → Disjunction B C → Meaning
+threshold_meaning rows take tell d =
+    means d.minimum (take d.combiner) (tell d.combiner) d.doc d.score d.queue.chains (left_of rows d)
+    (on d.doc d.unread + room rows d.queue)
 
 -- the greatest of the sets' guesses while any set has something left, or all are yet to be read
 abbrev pub guess_of : {B C : Type 0} → (B → List ℕ) → Disjunction B C → ℕ

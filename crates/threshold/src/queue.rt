@@ -2,7 +2,8 @@ ghost use Rattle.std.specs.Prelude.{◌≡◌, ℕ, ◌+◌, ◌<◌, ◌≤◌,
 ghost use Rattle.bank.specs.Places.{at};
 ghost use Rattle.live.specs.Sets.{empty, AllSteady};
 ghost use Rattle.threshold.specs.Entries.{Tops, Ready, Taken, Gathered};
-ghost use Rattle.threshold.specs.State.{left, room, on, Comes};
+ghost use Rattle.live.specs.Views.{left};
+ghost use Rattle.threshold.specs.State.{room, on, Comes};
 
 use crate::chains::Chains;
 use bank::bank::Bank;
@@ -35,7 +36,7 @@ pub(crate) struct Stand {
 impl<B: Bank> Queue<B> {
     // Nothing of the bank is ever asked.
     pub(crate) fn idle(bank: B) -> Queue<B>
-        ensures none { (k : ℕ) → at (left B.Bank.places result.sets) k ≡ empty }
+        ensures none { (k : ℕ) → at (left B.Bank.rows result.sets) k ≡ empty }
         ensures unqueued { result.chains ≡ [] }
     {
         Queue {
@@ -47,10 +48,10 @@ impl<B: Bank> Queue<B> {
     // The sets, which are at most `count`, each at its first document. A bank is asked by place.
     pub(crate) fn new(bank: B, count: usize) -> Queue<B>
         requires few { count ≤ 32 }
-        requires all { length (B.Bank.places bank) ≤ count }
+        requires all { length (B.Bank.rows bank).places ≤ count }
         ensures at_most { length result.chains ≤ count }
-        ensures alike { AllSteady (B.Bank.places bank) → (k : ℕ) → at (left B.Bank.places result.sets) k ≡ at (B.Bank.places bank) k }
-        ensures ready { AllSteady (B.Bank.places bank) → Ready (left B.Bank.places result.sets) result.chains }
+        ensures alike { AllSteady (B.Bank.rows bank).places → (k : ℕ) → at (left B.Bank.rows result.sets) k ≡ at (B.Bank.rows bank).places k }
+        ensures ready { AllSteady (B.Bank.rows bank).places → Ready (left B.Bank.rows result.sets) result.chains }
     {
         let sets = Live::new(bank);
         let mut chains = Chains::new();
@@ -66,8 +67,8 @@ impl<B: Bank> Queue<B> {
     // Takes the score of the set at the top, and moves it on.
     fn take_top<C: ScoreCombiner>(&mut self, combiner: &C, top: Entry, tally: &mut Tally)
         requires { Tops self.old.chains top }
-        ensures pays { room B.Bank.places self.new < room B.Bank.places self.old }
-        ensures taken { Taken (C.ScoreCombiner.taken combiner.now) top (left B.Bank.places self.old.sets) (left B.Bank.places self.new.sets) self.old.chains self.new.chains tally.old tally.new }
+        ensures pays { room B.Bank.rows self.new < room B.Bank.rows self.old }
+        ensures taken { Taken (C.ScoreCombiner.taken combiner.now) top (left B.Bank.rows self.old.sets) (left B.Bank.rows self.new.sets) self.old.chains self.new.chains tally.old tally.new }
     {
         let score = self.sets.wanted_score(top.place, combiner);
         combiner.take(tally, score);
@@ -82,8 +83,8 @@ impl<B: Bank> Queue<B> {
     // Moves every set that stands at the id of the top past it, in the order of the bank.
     fn gather<C: ScoreCombiner>(&mut self, combiner: &C, lowest: Entry) -> Group
         requires { Tops self.old.chains lowest }
-        ensures pays { room B.Bank.places self.new < room B.Bank.places self.old }
-        ensures gathered { Gathered (C.ScoreCombiner.taken combiner.now) lowest.id (left B.Bank.places self.old.sets) (left B.Bank.places self.new.sets) self.old.chains self.new.chains result.count result.tally }
+        ensures pays { room B.Bank.rows self.new < room B.Bank.rows self.old }
+        ensures gathered { Gathered (C.ScoreCombiner.taken combiner.now) lowest.id (left B.Bank.rows self.old.sets) (left B.Bank.rows self.new.sets) self.old.chains self.new.chains result.count result.tally }
     {
         let mut tally = Tally::new();
         let mut count: usize = 0;
@@ -100,8 +101,8 @@ impl<B: Bank> Queue<B> {
     pub(crate) fn next_group<C: ScoreCombiner>(&mut self, combiner: &C, minimum: usize) -> Stand
         ensures an_id { result.doc ≤ 2147483647 }
         ensures ends { result.doc ≡ 2147483647 → self.new.chains ≡ [] }
-        ensures pays { on result.doc false + room B.Bank.places self.new ≤ room B.Bank.places self.old }
-        ensures comes { Comes minimum (C.ScoreCombiner.taken combiner.now) (C.ScoreCombiner.told combiner.now) (left B.Bank.places self.old.sets) (left B.Bank.places self.new.sets) self.old.chains self.new.chains result.doc result.score }
+        ensures pays { on result.doc false + room B.Bank.rows self.new ≤ room B.Bank.rows self.old }
+        ensures comes { Comes minimum (C.ScoreCombiner.taken combiner.now) (C.ScoreCombiner.told combiner.now) (left B.Bank.rows self.old.sets) (left B.Bank.rows self.new.sets) self.old.chains self.new.chains result.doc result.score }
     {
         while let Some(top) = self.chains.top() {
             let group = self.gather(combiner, top);

@@ -147,11 +147,5 @@ opened_nothing f tell P Q a b c low x cr cr1 le rises lowest z v n pays tot =
     ))
     (cases_lt low TERM)
 
--- a bank of at most 32 sets, of which none is known to have ended but those that have
-pub live_alike : {B : Type 0} (rows : B → Rows) (bank : B) (v : Live B) → length (rows bank).places ≤ 32
-    → ((k : ℕ) → k < 32 → at (left rows v) k ≡ at (rows bank).places k) → (k : ℕ) → at (left rows v) k ≡ at (rows bank).places k
-live_alike rows bank v few apt k =
-    ⊎_elim (apt k) (λ l. let h = length_kept v.live (rows v.bank).places in let n = v.count in at_outside (left rows v) k (omega arith) ∙ sym (at_outside (rows bank).places k (omega arith))) (cases_lt k 32)
-
 pub alike_steady : (Q P : List Meaning) → ((k : ℕ) → at Q k ≡ at P k) → AllSteady P → AllSteady Q
 alike_steady Q P e s = steady_all Q (λ k l. subst Steady (sym (e k)) (steady_at P k s))

@@ -36,11 +36,11 @@ impl<B: Bank, C: ScoreCombiner> Disjunction<B, C> {
     // The documents that at least `minimum` of the sets list. More than 32 sets and a minimum of 0 are refused: then the set
     // is empty, with hint and cost 0. A minimum above the number of sets lists nothing, and nothing is read yet.
     pub fn new(bank: B, combiner: C, minimum: usize) -> (Option<Refusal>, Disjunction<B, C>)
-        ensures refuses { result.0 ≡ refusal_of (length (B.Bank.places bank)) minimum }
-        ensures empty { (refusal_of (length (B.Bank.places bank)) minimum ≢ None) → (⟦<Self as DocSet>⟧.meaning result.1 ≡ calm []) × (⟦<Self as DocSet>⟧.hint result.1 ≡ 0) × (⟦<Self as DocSet>⟧.price result.1 ≡ 0) }
-        ensures list { refusal_of (length (B.Bank.places bank)) minimum ≡ None → AllSteady (B.Bank.places bank) → ⟦<Self as DocSet>⟧.meaning result.1 ≡ calm (threshold_list minimum (C.ScoreCombiner.taken combiner) (C.ScoreCombiner.told combiner) (B.Bank.places bank)) }
-        ensures waits { refusal_of (length (B.Bank.places bank)) minimum ≡ None → result.1.unread ≡ nat_lt (length (B.Bank.places bank)) minimum }
-        ensures reads { refusal_of (length (B.Bank.places bank)) minimum ≡ None → AllSteady (B.Bank.places bank) → (k : ℕ) → k < 32 → at (left_of B.Bank.places result.1) k ≡ at (read_to result.1.unread result.1.doc (B.Bank.places bank)) k }
+        ensures refuses { result.0 ≡ refusal_of (length (B.Bank.rows bank).places) minimum }
+        ensures empty { (refusal_of (length (B.Bank.rows bank).places) minimum ≢ None) → (⟦<Self as DocSet>⟧.meaning result.1 ≡ calm []) × (⟦<Self as DocSet>⟧.hint result.1 ≡ 0) × (⟦<Self as DocSet>⟧.price result.1 ≡ 0) }
+        ensures list { refusal_of (length (B.Bank.rows bank).places) minimum ≡ None → AllSteady (B.Bank.rows bank).places → ⟦<Self as DocSet>⟧.meaning result.1 ≡ calm (threshold_list minimum (C.ScoreCombiner.taken combiner) (C.ScoreCombiner.told combiner) (B.Bank.rows bank).places) }
+        ensures waits { refusal_of (length (B.Bank.rows bank).places) minimum ≡ None → result.1.unread ≡ nat_lt (length (B.Bank.rows bank).places) minimum }
+        ensures reads { refusal_of (length (B.Bank.rows bank).places) minimum ≡ None → AllSteady (B.Bank.rows bank).places → (k : ℕ) → k < 32 → at (left_of B.Bank.rows result.1) k ≡ at (read_to result.1.unread result.1.doc (B.Bank.rows bank).places) k }
     {
         let count = bank.len();
         if count > MOST {
@@ -88,11 +88,11 @@ impl<B: Bank, C: ScoreCombiner> Disjunction<B, C> {
 }
 
 impl<B: Bank, C: ScoreCombiner> DocSet for Disjunction<B, C> {
-    ghost meaning = { λ d. threshold_meaning B.Bank.places C.ScoreCombiner.taken C.ScoreCombiner.told d };
+    ghost meaning = { λ d. threshold_meaning B.Bank.rows C.ScoreCombiner.taken C.ScoreCombiner.told d };
 
-    ghost hint = { λ d. guess_of B.Bank.hints d };
+    ghost hint = { λ d. guess_of (λ b. (B.Bank.rows b).hints) d };
 
-    ghost price = { λ d. guess_of B.Bank.prices d };
+    ghost price = { λ d. guess_of (λ b. (B.Bank.rows b).prices) d };
 
     fn doc(&self) -> u32 {
         self.doc
@@ -102,7 +102,7 @@ impl<B: Bank, C: ScoreCombiner> DocSet for Disjunction<B, C> {
     fn advance(&mut self) -> u32
         ensures moved { Moved (⟦<Self as DocSet>⟧.meaning self.old) (⟦<Self as DocSet>⟧.meaning self.new) result }
         ensures read { self.new.unread ≡ false }
-        ensures reads { Steady (⟦<Self as DocSet>⟧.meaning self.old) → left_of B.Bank.places self.new ≡ passed (suc result) (left_of B.Bank.places self.old) }
+        ensures reads { Steady (⟦<Self as DocSet>⟧.meaning self.old) → left_of B.Bank.rows self.new ≡ passed (suc result) (left_of B.Bank.rows self.old) }
         ensures stands { self.new.doc ≡ result }
     {
         if self.doc == TERMINATED && !self.unread {
@@ -120,7 +120,7 @@ impl<B: Bank, C: ScoreCombiner> DocSet for Disjunction<B, C> {
     fn seek(&mut self, target: u32) -> u32
         ensures sought { Sought target (⟦<Self as DocSet>⟧.meaning self.old) (⟦<Self as DocSet>⟧.meaning self.new) result }
         ensures waits { self.new.unread ≡ self.old.unread }
-        ensures reads { Steady (⟦<Self as DocSet>⟧.meaning self.old) → left_of B.Bank.places self.new ≡ read_to self.old.unread result (left_of B.Bank.places self.old) }
+        ensures reads { Steady (⟦<Self as DocSet>⟧.meaning self.old) → left_of B.Bank.rows self.new ≡ read_to self.old.unread result (left_of B.Bank.rows self.old) }
     {
         let mut doc = self.doc;
         while doc < target && doc != TERMINATED {

@@ -1,16 +1,17 @@
 use Rattle.std.proofs.Common.{◌+◌, ◌≤◌, List, length, sym, ap, subst, arith}
 use Rattle.std.proofs.lemmas.List.Sorted.{length_permutation, sum_by_pushed}
 use Rattle.heap.specs.declared.order.Entry.{Entry}
-use Rattle.threshold.specs.State.{left}
+use Rattle.live.specs.Views.{left}
 use Rattle.threshold.proofs.Groups.{Loading, loading_ended, loading_more}
-use Rattle.threshold.proofs.Built.{alike, all_loaded}
+use Rattle.live.proofs.Keeps.{alike_places}
+use Rattle.threshold.proofs.Built.{all_loaded}
 use Rattle.threshold.proofs.queue.Queue.new.Goals.{then-id-ne-TERMINATED, else-id-ne-TERMINATED}
 use Rattle.threshold.proofs.queue.Queue.new.Goals as goal
 
 pub loop-place-preserved : goal.loop-place-preserved
 loop-place-preserved g c =
     let i = c.loop-place.invariant in
-    let P = left g.B.Bank.places c.new-sets.result in
+    let P = left g.B.Bank.rows c.new-sets.result in
     let k = c.loop-place.place in
     let t = c.doc_at-id.ensures.told in
     let I : List Entry → Type 0 = λ E. (length E ≤ k + 1) × Loading P E (k + 1) in
@@ -28,10 +29,8 @@ loop-place-preserved g c =
 
 pub returns-clause-alike : goal.returns-clause-alike
 returns-clause-alike g c =
-    let v = c.new-sets.result in
-    λ s. alike v.live _ _ c.args.count v.count c.requires.all c.requires.few (ap g.B.Bank.places c.new-sets.ensures.bank) (c.new-sets.ensures.apt s)
+    λ s. alike_places g.B.Bank.rows c.args.bank c.new-sets.result (omega (arith, c.requires.all, c.requires.few)) (c.new-sets.ensures.apt s)
 
 pub returns-clause-ready : goal.returns-clause-ready
 returns-clause-ready g c =
-    let v = c.new-sets.result in
-    λ s. all_loaded _ _ _ c.args.count _ (alike v.live _ _ c.args.count v.count c.requires.all c.requires.few (ap g.B.Bank.places c.new-sets.ensures.bank) (c.new-sets.ensures.apt s)) s c.requires.all c.loop-place-test.false c.loop-place.invariant.1
+    λ s. all_loaded _ _ _ c.args.count _ (alike_places g.B.Bank.rows c.args.bank c.new-sets.result (omega (arith, c.requires.all, c.requires.few)) (c.new-sets.ensures.apt s)) s c.requires.all c.loop-place-test.false c.loop-place.invariant.1

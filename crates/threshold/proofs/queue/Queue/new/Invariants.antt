@@ -1,8 +1,8 @@
 use Rattle.std.proofs.Common.{◌≤◌, length}
-use Rattle.threshold.specs.State.{left}
+use Rattle.live.specs.Views.{left}
 use Rattle.threshold.proofs.Groups.{Loading}
 use Rattle.threshold.proofs.queue.Queue.new.Given as goal
 
 abbrev pub invariant-loop-place : goal.invariant-loop-place
 invariant-loop-place g l =
-    (length l.chains ≤ l.place) × Loading (left g.B.Bank.places l.sets) l.chains l.place
+    (length l.chains ≤ l.place) × Loading (left g.B.Bank.rows l.sets) l.chains l.place

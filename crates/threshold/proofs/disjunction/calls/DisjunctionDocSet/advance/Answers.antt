@@ -1,6 +1,7 @@
 use Rattle.std.proofs.Common.{◌≡◌, ◌<◌, ◌≤◌, true, ◌⊎◌, inl, inr, arith}
 use Rattle.live.proofs.Thresholds.{total, total_kept}
-use Rattle.threshold.specs.State.{left, room}
+use Rattle.live.specs.Views.{left}
+use Rattle.threshold.specs.State.{room}
 use Rattle.threshold.proofs.States.{moved_stay, moved_next, steady_fit, fit_ready, read_out}
 use Rattle.threshold.proofs.disjunction.calls.DisjunctionDocSet.advance.Goals.{else-self-eq-TERMINATED-via-then-self-eq-TERMINATED+else-not-self, else-self-eq-TERMINATED-via-else-self-eq-TERMINATED}
 use Rattle.threshold.proofs.disjunction.calls.DisjunctionDocSet.advance.Goals as goal
@@ -21,7 +22,7 @@ returns-clause-moved g c =
       | else-self-eq-TERMINATED-via-then-self-eq-TERMINATED+else-not-self x ↦ inr x.if-not-self.false
       | else-self-eq-TERMINATED-via-else-self-eq-TERMINATED x ↦ inl (let a = u.an_id in let b = x.if-self-eq-TERMINATED.false in omega (arith, b))
     ] in
-    let small : total (left g.B.Bank.places v.sets) ≤ room g.B.Bank.places v = let a = total_kept v.sets.live (g.B.Bank.places v.sets.bank) in omega arith in
+    let small : total (left g.B.Bank.rows v.sets) ≤ room g.B.Bank.rows v = let a = total_kept v.sets.live (g.B.Bank.rows v.sets.bank).places in omega arith in
     moved_next _ _ _ _ _ _ _ u.unread _ _ _ _ _ _ w.an_id u.waits goes w.pays small w.comes
 
 pub returns-clause-reads : goal.returns-clause-reads

@@ -19,7 +19,7 @@ loop-doc-preserved g c =
     let i = c.loop-doc.invariant in
     let u = c.loop-doc.self in
     let f = c.advance-doc.ensures in
-    let m = threshold_meaning g.B.Bank.places g.C.ScoreCombiner.taken g.C.ScoreCombiner.told u in
+    let m = threshold_meaning g.B.Bank.rows g.C.ScoreCombiner.taken g.C.ScoreCombiner.told u in
     let off : u.unread ≡ false = ⊎_elim (λ e. absurd (c.if-doc-ne-TERMINATED.true (sym i.2 ∙ (u.waits e).0))) (λ e. e) (cases_Bool u.unread) in (
       seek_steps _ _ _ _ i.0 c.loop-doc-test.true _ _ f.moved,
       f.read ∙ sym off ∙ i.1,
