@@ -1,38 +1,12 @@
 -- Lemmas on what a card says.
-use Rattle.std.proofs.Common.{◌≡◌, ℕ, suc, ◌+◌, ◌<◌, ltb, ◌⊎◌, List, [], ◌∷◌, ◌++◌, map, length, Ok, Err, vec_items, Result, sym, ap, ◌∙◌, subst, inl, inr, add-one, arith}
+use Rattle.std.proofs.Common.{◌≡◌, ℕ, suc, ◌+◌, ◌<◌, ltb, ◌⊎◌, List, [], ◌∷◌, length, Ok, Err, Result, sym, ap, ◌∙◌, subst, inl, inr, add-one, arith}
 use Rattle.std.proofs.lemmas.Bool.{lt-ltb, le-ltb, cond-true, cond-false}
-use Rattle.std.proofs.lemmas.List.{length-map, map_push}
-use Rattle.card.specs.declared.card.Card.{Card}
-use Rattle.card.specs.declared.card.Topic as card
 use Rattle.card.specs.declared.fault.CardFault.{CardFault}
-use Rattle.card.specs.declared.fault.CardFault.TheVariants.{TooManyTopics, NoTopics, OutOfMemory}
+use Rattle.card.specs.declared.fault.CardFault.TheVariants.{NoTopics, OutOfMemory}
 use Rattle.card.specs.Text.{lines}
 use Rattle.card.specs.Faults.{line_of}
-use Rattle.card.specs.Statements.{Plain, plain, Said, topic, said}
-use Rattle.card.specs.Cards.{Sketch, sketch, taken, with_topic, next, read_lines, card_of, Parses}
-
--- the sketch with these topics in the place of its own
-abbrev pub retopic : List Plain → Sketch → Sketch
-retopic ps k = record {
-  topics = ps;
-  extra = k.extra;
-  seen_ids = k.seen_ids;
-  shown = k.shown;
-  least = k.least;
-  seen_line = k.seen_line;
-  shown_line = k.shown_line;
-  least_line = k.least_line;
-}
-
-pub topic_fits :
-    (n : ℕ) (k : Card) (t : card.Topic) (ts : List card.Topic) → length (vec_items k.topics) < 32 →
-    ts ≡ vec_items k.topics ++ t ∷ [] →
-    taken n (sketch k) (topic (plain t)) ≡ Ok (retopic (map plain ts) (sketch k))
-topic_fits n k t ts h e =
-    cond-true (ltb (length (map plain (vec_items k.topics))) 32) (Ok (with_topic (plain t) (sketch k))) (Err (TooManyTopics n))
-    (lt-ltb (length (map plain (vec_items k.topics))) 32 (omega (arith, length-map (vec_items k.topics) plain))) ∙
-    ap {B = Result Sketch CardFault} (λ (ps : List Plain). Ok (retopic ps (sketch k)))
-    (sym (ap (map plain) e ∙ map_push plain (vec_items k.topics) t))
+use Rattle.card.specs.Statements.{Said, said}
+use Rattle.card.specs.Cards.{Sketch, taken, next, read_lines, card_of, Parses}
 
 -- ---- line by line
 

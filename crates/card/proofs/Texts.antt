@@ -1,8 +1,11 @@
 -- Lemmas on texts: numbers digit by digit, parts, fields and names.
-use Rattle.std.proofs.Common.{◌≡◌, ℕ, suc, ◌+◌, ◌-◌, ◌*◌, ◌<◌, ◌≤◌, Bool, true, false, cond, ◌&&◌, eqb, ltb, List, [], ◌∷◌, ◌++◌, length, get_or, take, drop, Some, None, Option, sym, refl, ap, ◌∙◌, ⊎_elim, append_assoc, append-nil, arith}
-use Rattle.std.proofs.lemmas.List.{at_drop_more}
-use Rattle.std.proofs.lemmas.Bool.{lt-ltb, le-ltb, cond-true, cond-false, cases_Bool, cases_eq, and_parts, and_cases, and_right, eq-eqb, ne_eqb, ltb-true, ltb-false}
-use Rattle.card.specs.Text.{digit, all_digits, value_after, pushed, number, before, after, closed, fields, fields_after, lines, lines_after, numbers, put_first, name_byte, all_name}
+use Rattle.std.proofs.Common.{◌≡◌, ℕ, suc, ◌+◌, ◌-◌, ◌*◌, ◌<◌, ◌≤◌, Bool, true, false, cond, ◌&&◌, eqb, ltb, List, [], ◌∷◌, ◌++◌, length, get_or, take, drop, not, unwrap_or, Some, None, IfSome, Bor, Option, sym, refl, ap, ◌∙◌, subst, ⊎_elim, append_assoc, append-nil, arith}
+use Rattle.std.specs.Option.{option_copied}
+use Rattle.std.proofs.lemmas.List.Sums.{passes_at_first}
+use Rattle.std.specs.List.{position, position_or_len}
+use Rattle.std.proofs.lemmas.List.{at_drop_more, take_all, drop_more, drop_all}
+use Rattle.std.proofs.lemmas.Bool.{le-ltb, cond-true, cond-false, cases_Bool, cases_eq, and_cases, and_right, eq-eqb, ne_eqb, ltb-true, ltb-false, false≢true}
+use Rattle.card.specs.Text.{digit, all_digits, value_after, pushed, before, after, closed, fields, fields_after, lines, lines_after, all_name}
 
 pub some_none : {X : Type 0} (x : X) → ◌≡◌ {A = Option X} (Some x) None → ⊥
 some_none x e = let z : ◌≡◌ {A = ℕ} 0 1 = cc in omega arith
@@ -16,14 +19,6 @@ read_on n bs = cond (all_digits bs && ltb (value_after n bs) 4294967296) (Some (
 grows : (n : ℕ) (bs : List ℕ) → n ≤ value_after n bs
 grows n [] = omega arith
 grows n (c ∷ cs) = omega (arith, grows (n * 10 + (c - 48)) cs)
-
-pub number_starts : (bs : List ℕ) → 0 < length bs → number bs ≡ read_on 0 bs
-number_starts bs h =
-    ap (λ (b : Bool). cond (b && (all_digits bs && ltb (value_after 0 bs) 4294967296)) (Some (value_after 0 bs)) None) (lt-ltb 0 (length bs) h)
-
-pub number_empty : (bs : List ℕ) → length bs ≡ 0 → number bs ≡ None
-number_empty [] h = refl
-number_empty (c ∷ cs) h = absurd (omega arith)
 
 digit_more : (n c : ℕ) (cs : List ℕ) → digit c ≡ true → read_on n (c ∷ cs) ≡ read_on (n * 10 + (c - 48)) cs
 digit_more n c cs h =
@@ -49,29 +44,6 @@ large_stop n bs h =
     cond-false (all_digits bs && ltb (value_after n bs) 4294967296) (Some (value_after n bs)) None
     (and_right (all_digits bs) (ltb (value_after n bs) 4294967296) (le-ltb (value_after n bs) 4294967296 (omega (arith, grows n bs))))
 
-pub number_more : (n c m : ℕ) (cs : List ℕ) → Some m ≡ pushed n c → read_on n (c ∷ cs) ≡ read_on m cs
-number_more n c m cs e =
-    let t : Bool = digit c && ltb (n * 10 + (c - 48)) 4294967296 in
-    ⊎_elim {C = read_on n (c ∷ cs) ≡ read_on m cs}
-    (λ h.
-    let p : Some m ≡ Some (n * 10 + (c - 48)) = e ∙ cond-true t (Some (n * 10 + (c - 48))) None h in
-    let q : n * 10 + (c - 48) ≡ m = cc in
-    digit_more n c cs (and_parts (digit c) (ltb (n * 10 + (c - 48)) 4294967296) h).0 ∙ ap (λ (k : ℕ). read_on k cs) q)
-    (λ h. absurd (some_none m (e ∙ cond-false t (Some (n * 10 + (c - 48))) None h)))
-    (cases_Bool t)
-
-pub pushed_small : (n c m : ℕ) → Some m ≡ pushed n c → m < 4294967296
-pushed_small n c m e =
-    let v : ℕ = n * 10 + (c - 48) in
-    let t : Bool = digit c && ltb v 4294967296 in
-    ⊎_elim {C = m < 4294967296}
-    (λ h.
-    let p : Some m ≡ Some v = e ∙ cond-true t (Some v) None h in
-    let q : v ≡ m = cc in
-    omega (arith, q, ltb-true v 4294967296 (and_parts (digit c) (ltb v 4294967296) h).1))
-    (λ h. absurd (some_none m (e ∙ cond-false t (Some v) None h)))
-    (cases_Bool t)
-
 pub number_stop : (n c : ℕ) (cs : List ℕ) → None ≡ pushed n c → read_on n (c ∷ cs) ≡ None
 number_stop n c cs e =
     let v : ℕ = n * 10 + (c - 48) in
@@ -89,21 +61,10 @@ number_stop n c cs e =
     (and_cases (digit c) (ltb v 4294967296) h))
     (cases_Bool t)
 
--- the same at a place of the text
-pub number_more_at :
-    (bs : List ℕ) (i n m : ℕ) → i < length bs → Some m ≡ pushed n (get_or bs i 0) → read_on n (drop i bs) ≡ read_on m (drop (i + 1) bs)
-number_more_at bs i n m h e = at_drop_more (read_on n) bs i 0 h ∙ number_more n (get_or bs i 0) m (drop (i + 1) bs) e
-
 pub number_stop_at : (bs : List ℕ) (i n : ℕ) → i < length bs → None ≡ pushed n (get_or bs i 0) → read_on n (drop i bs) ≡ None
 number_stop_at bs i n h e = at_drop_more (read_on n) bs i 0 h ∙ number_stop n (get_or bs i 0) (drop (i + 1) bs) e
 
-pub number_ends : (n : ℕ) → n < 4294967296 → read_on n [] ≡ Some n
-number_ends n h = cond-true (ltb n 4294967296) (Some n) None (lt-ltb n 4294967296 h)
-
 -- ---- parts
-
-pub before_here : (c x : ℕ) (xs : List ℕ) → x ≡ c → before c (x ∷ xs) ≡ []
-before_here c x xs h = cond-true (eqb x c) [] (x ∷ before c xs) (eq-eqb x c h)
 
 pub before_later : (c x : ℕ) (xs : List ℕ) → (x ≡ c → ⊥) → before c (x ∷ xs) ≡ x ∷ before c xs
 before_later c x xs h = cond-false (eqb x c) [] (x ∷ before c xs) (ne_eqb x c h)
@@ -122,29 +83,64 @@ before_short c (x ∷ xs) =
       | false ↦ omega (arith, before_short c xs)
     ]
 
-pub take_before : (c : ℕ) (bs : List ℕ) → take (length (before c bs)) bs ≡ before c bs
-take_before c [] = refl
-take_before c (x ∷ xs) =
+-- the place of the first c, or of none
+abbrev pub place : ℕ → List ℕ → ℕ
+place c bs = position_or_len (λ x. eqb x c) bs
+
+-- both parts by that place
+take_place : (c : ℕ) (bs : List ℕ) → take (place c bs) bs ≡ before c bs
+take_place c [] = refl
+take_place c (x ∷ xs) =
     elim (eqb x c) as
-    (λ (b : Bool). take (length (cond b [] (x ∷ before c xs))) (x ∷ xs) ≡ cond b [] (x ∷ before c xs)) [
+    (λ (b : Bool). take (cond (not b) (1 + place c xs) 0) (x ∷ xs) ≡ cond b [] (x ∷ before c xs)) [
       | true ↦ refl
-      | false ↦ ap (λ (l : List ℕ). x ∷ l) (take_before c xs)
+      | false ↦
+          let on : 1 + place c xs ≡ suc (place c xs) = omega arith in
+          ap (λ (k : ℕ). take k (x ∷ xs)) on ∙ ap (λ (l : List ℕ). x ∷ l) (take_place c xs)
     ]
 
--- all but the first byte
-abbrev pub tail : List ℕ → Option (List ℕ)
-tail [] = None
-tail (x ∷ xs) = Some xs
-
-pub drop_before : (c : ℕ) (bs : List ℕ) → tail (drop (length (before c bs)) bs) ≡ after c bs
-drop_before c [] = refl
-drop_before c (x ∷ xs) =
+drop_place : (c : ℕ) (bs : List ℕ) → place c bs < length bs → Some (drop (place c bs + 1) bs) ≡ after c bs
+drop_place c [] h = absurd (omega arith)
+drop_place c (x ∷ xs) h =
     elim (eqb x c) as
     (λ (b : Bool).
-    tail (drop (length (cond b [] (x ∷ before c xs))) (x ∷ xs)) ≡ cond b (Some xs) (after c xs)) [
-      | true ↦ refl
-      | false ↦ drop_before c xs
+    cond (not b) (1 + place c xs) 0 < suc (length xs) →
+    Some (drop (cond (not b) (1 + place c xs) 0 + 1) (x ∷ xs)) ≡ cond b (Some xs) (after c xs)) [
+      | true ↦ λ k. refl
+      | false ↦ λ k.
+          let on : 1 + place c xs + 1 ≡ suc (place c xs + 1) = omega arith in
+          ap (λ (i : ℕ). Some (drop i (x ∷ xs))) on ∙ drop_place c xs (omega (arith, k))
     ]
+    h
+
+none_place : (c : ℕ) (bs : List ℕ) → length bs ≤ place c bs → None ≡ after c bs
+none_place c [] h = refl
+none_place c (x ∷ xs) h =
+    elim (eqb x c) as
+    (λ (b : Bool). suc (length xs) ≤ cond (not b) (1 + place c xs) 0 → None ≡ cond b (Some xs) (after c xs)) [
+      | true ↦ λ k. absurd (omega (arith, k))
+      | false ↦ λ k. none_place c xs (omega (arith, k))
+    ]
+    h
+
+-- what `position` answers, by the two parts
+abbrev pub Parted : ℕ → List ℕ → Option ℕ → Type 0
+Parted c bs None = (bs ≡ before c bs) × (None ≡ after c bs)
+Parted c bs (Some at) = (take at bs ≡ before c bs) × (Some (drop (at + 1) bs) ≡ after c bs) × (at < length bs)
+
+parted : (c : ℕ) (bs : List ℕ) (b : Bool) → ltb (place c bs) (length bs) ≡ b → Parted c bs (cond b (Some (place c bs)) None)
+parted c bs true h = (
+  take_place c bs,
+  drop_place c bs (ltb-true (place c bs) (length bs) h),
+  ltb-true (place c bs) (length bs) h,
+)
+parted c bs false h = (
+  sym (take_all (place c bs) bs (ltb-false (place c bs) (length bs) h)) ∙ take_place c bs,
+  none_place c bs (ltb-false (place c bs) (length bs) h),
+)
+
+pub found_parts : (c : ℕ) (bs : List ℕ) (o : Option ℕ) → o ≡ position (λ x. eqb x c) bs → Parted c bs o
+found_parts c bs o e = subst (Parted c bs) (sym e) (parted c bs (ltb (place c bs) (length bs)) refl)
 
 -- ---- fields
 
@@ -169,25 +165,70 @@ pub closed_some : (w : List ℕ) → 0 < length w → closed w ≡ w ∷ []
 closed_some [] h = absurd (omega arith)
 closed_some (c ∷ cs) h = refl
 
-closed_none : (w : List ℕ) → length w ≡ 0 → closed w ≡ []
-closed_none [] h = refl
-closed_none (c ∷ cs) h = absurd (omega arith)
-
 parts : (bs front : List ℕ) (back : Option (List ℕ)) → front ≡ before 32 bs → back ≡ after 32 bs → fields bs ≡ closed front ++ later back
 parts bs front back e k =
     fields_split [] bs ∙ ap (λ (l : List ℕ). closed l ++ later (after 32 bs)) (sym e) ∙
     ap (λ (o : Option (List ℕ)). closed front ++ later o) (sym k)
 
--- the text up to the first space is a field, or empty
+-- the text up to the first space is a field
 pub field_first :
     (bs front : List ℕ) (back : Option (List ℕ)) → front ≡ before 32 bs → back ≡ after 32 bs → 0 < length front →
     fields bs ≡ front ∷ later back
 field_first bs front back e k h = parts bs front back e k ∙ ap (λ (l : List (List ℕ)). l ++ later back) (closed_some front h)
 
-pub field_skip :
-    (bs front : List ℕ) (back : Option (List ℕ)) → front ≡ before 32 bs → back ≡ after 32 bs → length front ≡ 0 →
-    fields bs ≡ later back
-field_skip bs front back e k h = parts bs front back e k ∙ ap (λ (l : List (List ℕ)). l ++ later back) (closed_none front h)
+-- the place of the first byte that is no space, or of none
+abbrev pub start : List ℕ → ℕ
+start bs = position_or_len (λ x. not (eqb x 32)) bs
+
+-- spaces in front are no part of a field
+fields_start : (bs : List ℕ) → fields bs ≡ fields (drop (start bs) bs)
+fields_start [] = refl
+fields_start (x ∷ xs) =
+    let at : Bool → List (List ℕ) = λ b. fields (drop (cond (not (not b)) (1 + start xs) 0) (x ∷ xs)) in
+    let on : suc (start xs) ≡ 1 + start xs = omega arith in
+    ⊎_elim {C = fields (x ∷ xs) ≡ fields (drop (start (x ∷ xs)) (x ∷ xs))}
+    (λ h.
+    cond-true (eqb x 32) (fields xs) (fields_after (x ∷ []) xs) h ∙ fields_start xs ∙
+    ap (λ (k : ℕ). fields (drop k (x ∷ xs))) on ∙ sym (ap at h))
+    (λ h. sym (ap at h))
+    (cases_Bool (eqb x 32))
+
+-- what `position` answers, by the fields
+abbrev pub Started : List ℕ → Option ℕ → Type 0
+Started bs None = fields bs ≡ []
+Started bs (Some at) = (fields bs ≡ fields (drop at bs)) × (at < length bs) × (0 < length (before 32 (drop at bs)))
+
+field_some : (x : ℕ) (xs : List ℕ) → not (eqb x 32) ≡ true → 0 < length (before 32 (x ∷ xs))
+field_some x xs h =
+    omega (arith, ap length (before_later 32 x xs (λ e. let t = eq-eqb x 32 e in absurd (false≢true (ap not (sym t) ∙ h)))))
+
+started : (bs : List ℕ) (b : Bool) → ltb (start bs) (length bs) ≡ b → Started bs (cond b (Some (start bs)) None)
+started bs true h =
+    let less : start bs < length bs = ltb-true (start bs) (length bs) h in (
+      fields_start bs,
+      less,
+      subst (λ (l : List ℕ). 0 < length (before 32 l)) (sym (drop_more bs (start bs) 0 less))
+          (field_some (get_or bs (start bs) 0) (drop (start bs + 1) bs) (passes_at_first (λ x. not (eqb x 32)) bs 0 less)),
+    )
+started bs false h = fields_start bs ∙ ap fields (drop_all (start bs) bs (ltb-false (start bs) (length bs) h))
+
+pub found_start : (bs : List ℕ) (o : Option ℕ) → o ≡ position (λ x. not (eqb x 32)) bs → Started bs o
+found_start bs o e = subst (Started bs) (sym e) (started bs (ltb (start bs) (length bs)) refl)
+
+-- the field that begins the text; rest is what stands behind it, or is empty
+pub field_here :
+    (bs front : List ℕ) (o : Option (Bor (List ℕ))) (d rest : Bor (List ℕ)) → front ≡ before 32 bs → option_copied o ≡ after 32 bs →
+    IfSome o (λ x. length x.now < length bs) → 0 < length (before 32 bs) → rest ≡ unwrap_or o d → d.now ≡ [] →
+    (fields bs ≡ front ∷ fields rest.now) × (length rest.now < length bs)
+field_here bs front None d rest e k s h r n =
+    let none : rest.now ≡ [] = ap (λ (x : Bor (List ℕ)). x.now) r ∙ n in (
+      field_first bs front None e k (omega (arith, ap length e)) ∙ ap (λ (l : List ℕ). front ∷ fields l) (sym none),
+      omega (arith, ap length none, before_short 32 bs),
+    )
+field_here bs front (Some x) d rest e k s h r n = (
+  field_first bs front (Some x.now) e k (omega (arith, ap length e)) ∙ ap (λ (y : Bor (List ℕ)). front ∷ fields y.now) (sym r),
+  omega (arith, ap (λ (y : Bor (List ℕ)). length y.now) r, s),
+)
 
 -- ---- lines
 
@@ -223,6 +264,22 @@ whole_line c (x ∷ xs) e =
     (λ h. before_later c x xs h ∙ ap (λ (l : List ℕ). x ∷ l) (whole_line c xs (e ∙ after_later c x xs h)))
     (cases_eq x c)
 
+-- the line that begins the text, likewise
+pub line_here :
+    (bs front : List ℕ) (o : Option (Bor (List ℕ))) (d rest : Bor (List ℕ)) → front ≡ before 10 bs → option_copied o ≡ after 10 bs →
+    IfSome o (λ x. length x.now < length bs) → 0 < length bs → rest ≡ unwrap_or o d → d.now ≡ [] →
+    (lines bs ≡ front ∷ lines rest.now) × (length rest.now < length bs)
+line_here bs front None d rest e k s h r n =
+    let none : rest.now ≡ [] = ap (λ (x : Bor (List ℕ)). x.now) r ∙ n in
+    let some : 0 < length front = omega (arith, ap length (e ∙ whole_line 10 bs k)) in (
+      line_parts bs front None e k ∙ closed_some front some ∙ ap (λ (l : List ℕ). front ∷ lines l) (sym none),
+      omega (arith, ap length none),
+    )
+line_here bs front (Some x) d rest e k s h r n = (
+  line_parts bs front (Some x.now) e k ∙ ap (λ (y : Bor (List ℕ)). front ∷ lines y.now) (sym r),
+  omega (arith, ap (λ (y : Bor (List ℕ)). length y.now) r, s),
+)
+
 -- ---- numbers of fields
 
 -- numbers that stand before others
@@ -230,51 +287,7 @@ abbrev pub onto : List ℕ → Option (List ℕ) → Option (List ℕ)
 onto xs None = None
 onto xs (Some ys) = Some (xs ++ ys)
 
-onto_more : (xs : List ℕ) (n : ℕ) (o : Option (List ℕ)) → onto xs (put_first (Some n) o) ≡ onto (xs ++ n ∷ []) o
-onto_more xs n None = refl
-onto_more xs n (Some ys) = ap (λ (l : List ℕ). Some l) (sym (append_assoc xs (n ∷ []) ys))
-
-pub ids_more :
-    (xs : List ℕ) (n : ℕ) (f : List ℕ) (fs : List (List ℕ)) → Some n ≡ number f →
-    onto xs (numbers (f ∷ fs)) ≡ onto (xs ++ n ∷ []) (numbers fs)
-ids_more xs n f fs e =
-    ap (λ (o : Option ℕ). onto xs (put_first o (numbers fs))) (sym e) ∙ onto_more xs n (numbers fs)
-
-pub ids_stop : (xs f : List ℕ) (fs : List (List ℕ)) → None ≡ number f → onto xs (numbers (f ∷ fs)) ≡ None
-ids_stop xs f fs e = ap (λ (o : Option ℕ). onto xs (put_first o (numbers fs))) (sym e)
-
-pub onto_none : (o : Option (List ℕ)) → onto [] o ≡ o
-onto_none None = refl
-onto_none (Some ys) = refl
-
-pub onto_all : (xs : List ℕ) → onto xs (Some []) ≡ Some xs
-onto_all xs = ap (λ (l : List ℕ). Some l) (append-nil xs)
-
 -- ---- names
 
 abbrev pub name_on : List ℕ → List ℕ → Option (List ℕ)
 name_on w bs = cond (all_name bs) (Some (w ++ bs)) None
-
-pub name_starts : (bs : List ℕ) → 0 < length bs → cond (ltb 0 (length bs) && all_name bs) (Some bs) None ≡ name_on [] bs
-name_starts bs h = ap (λ (b : Bool). cond (b && all_name bs) (Some bs) None) (lt-ltb 0 (length bs) h)
-
-name_more : (w : List ℕ) (c : ℕ) (cs : List ℕ) → true ≡ name_byte c → name_on w (c ∷ cs) ≡ name_on (w ++ c ∷ []) cs
-name_more w c cs h =
-    ap (λ (b : Bool). cond (b && all_name cs) (Some (w ++ c ∷ cs)) None) (sym h) ∙
-    ap (λ (l : List ℕ). cond (all_name cs) (Some l) None) (sym (append_assoc w (c ∷ []) cs))
-
-name_stop : (w : List ℕ) (c : ℕ) (cs : List ℕ) → false ≡ name_byte c → name_on w (c ∷ cs) ≡ None
-name_stop w c cs h = ap (λ (b : Bool). cond (b && all_name cs) (Some (w ++ c ∷ cs)) None) (sym h)
-
-pub name_more_at :
-    (bs : List ℕ) (i : ℕ) (w v : List ℕ) → i < length bs → true ≡ name_byte (get_or bs i 0) → v ≡ w ++ get_or bs i 0 ∷ [] →
-    name_on w (drop i bs) ≡ name_on v (drop (i + 1) bs)
-name_more_at bs i w v h t e =
-    at_drop_more (name_on w) bs i 0 h ∙ name_more w (get_or bs i 0) (drop (i + 1) bs) t ∙
-    ap (λ (l : List ℕ). name_on l (drop (i + 1) bs)) (sym e)
-
-pub name_stop_at : (bs : List ℕ) (i : ℕ) (w : List ℕ) → i < length bs → false ≡ name_byte (get_or bs i 0) → name_on w (drop i bs) ≡ None
-name_stop_at bs i w h t = at_drop_more (name_on w) bs i 0 h ∙ name_stop w (get_or bs i 0) (drop (i + 1) bs) t
-
-pub name_ends : (w : List ℕ) → name_on w [] ≡ Some w
-name_ends w = ap (λ (l : List ℕ). Some l) (append-nil w)

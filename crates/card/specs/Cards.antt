@@ -2,7 +2,7 @@
 use Rattle.std.specs.Prelude.{◌≡◌, ℕ, suc, ◌≤◌, Bool, cond, ◌⊎◌, List, [], ◌∷◌, ◌++◌, map, length, pos, is_some, Some, None, Ok, Err, vec_items, Option, Result, from_bits, nat_lt, Float}
 use Rattle.std.specs.Float.Ieee.{of_int, div}
 use Rattle.std.specs.Float.{binary32}
-use Rattle.std.specs.Option.{option_map}
+use Rattle.std.specs.Option.{option_map, unwrap_or}
 use Rattle.card.specs.declared.card.Card.{Card}
 use Rattle.card.specs.declared.fault.CardFault.{CardFault}
 use Rattle.card.specs.declared.fault.CardFault.TheVariants.{TooManyTopics, Twice, NoTopics, OutOfMemory}
@@ -29,12 +29,12 @@ abbrev pub sketch : Card → Sketch
 sketch k = record {
   topics = map plain (vec_items k.topics);
   extra = option_map plain k.bonus;
-  seen_ids = vec_items k.seen;
-  shown = k.pick;
-  least = k.at_least;
-  seen_line = k.seen_line;
-  shown_line = k.pick_line;
-  least_line = k.at_least_line;
+  seen_ids = unwrap_or (option_map (λ s. vec_items s.value) k.seen) [];
+  shown = unwrap_or (option_map (λ s. s.value) k.pick) 10;
+  least = unwrap_or (option_map (λ s. s.value) k.at_least) 1;
+  seen_line = option_map (λ s. s.line) k.seen;
+  shown_line = option_map (λ s. s.line) k.pick;
+  least_line = option_map (λ s. s.line) k.at_least;
 }
 
 -- a card on which nothing stands
@@ -53,68 +53,23 @@ blank = record {
 -- ---- one statement more; n is its line
 
 abbrev pub with_topic : Plain → Sketch → Sketch
-with_topic p k = record {
-  topics = k.topics ++ p ∷ [];
-  extra = k.extra;
-  seen_ids = k.seen_ids;
-  shown = k.shown;
-  least = k.least;
-  seen_line = k.seen_line;
-  shown_line = k.shown_line;
-  least_line = k.least_line;
-}
+with_topic p k = record k { topics = k.topics ++ p ∷ [] }
 
 abbrev pub with_extra : Plain → Sketch → Sketch
-with_extra p k = record {
-  topics = k.topics;
-  extra = Some p;
-  seen_ids = k.seen_ids;
-  shown = k.shown;
-  least = k.least;
-  seen_line = k.seen_line;
-  shown_line = k.shown_line;
-  least_line = k.least_line;
-}
+with_extra p k = record k { extra = Some p }
 
 abbrev pub with_seen : ℕ → List ℕ → Sketch → Sketch
-with_seen n ids k = record {
-  topics = k.topics;
-  extra = k.extra;
-  seen_ids = ids;
-  shown = k.shown;
-  least = k.least;
-  seen_line = Some n;
-  shown_line = k.shown_line;
-  least_line = k.least_line;
-}
+with_seen n ids k = record k { seen_ids = ids; seen_line = Some n }
 
 abbrev pub with_shown : ℕ → ℕ → Sketch → Sketch
-with_shown n m k = record {
-  topics = k.topics;
-  extra = k.extra;
-  seen_ids = k.seen_ids;
-  shown = m;
-  least = k.least;
-  seen_line = k.seen_line;
-  shown_line = Some n;
-  least_line = k.least_line;
-}
+with_shown n m k = record k { shown = m; shown_line = Some n }
 
 abbrev pub with_least : ℕ → ℕ → Sketch → Sketch
-with_least n m k = record {
-  topics = k.topics;
-  extra = k.extra;
-  seen_ids = k.seen_ids;
-  shown = k.shown;
-  least = m;
-  seen_line = k.seen_line;
-  shown_line = k.shown_line;
-  least_line = Some n;
-}
+with_least n m k = record k { least = m; least_line = Some n }
 
 -- what may stand once: nothing stands there yet
-abbrev pub once : ℕ → Bool → Sketch → Result Sketch CardFault
-once n stands k = cond stands (Err (Twice n)) (Ok k)
+abbrev pub once : {X : Type 0} → ℕ → Bool → X → Result X CardFault
+once n stands x = cond stands (Err (Twice n)) (Ok x)
 
 -- at most 32 topics; the others once
 abbrev pub taken : ℕ → Sketch → Said → Result Sketch CardFault

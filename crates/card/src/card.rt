@@ -10,10 +10,10 @@
 // NAME has letters, digits, `-` and `_`. WEIGHT is a number from 0 to 1000 with at most two decimals, and may be left
 // out: then it is 1. ID is a decimal number up to 4294967295. That the ids of a line rise and stay below 2147483647 is
 // not checked here: the set that is built over them does that, and its refusal is told with the line as `CardFault::Ids`.
-ghost use Rattle.std.specs.Prelude.{◌≡◌, length};
+ghost use Rattle.std.specs.Prelude.{◌≡◌, length, is_some, OnOk};
 ghost use Rattle.card.specs.Faults.{Reads};
-ghost use Rattle.card.specs.Statements.{plain, meant, topic as said_topic, bonus as said_bonus, seen as said_seen, pick as said_pick, at_least as said_at_least};
-ghost use Rattle.card.specs.Cards.{weight_score, sketch, blank, taken, Parses, Limited, sketched};
+ghost use Rattle.card.specs.Statements.{plain, meant, topic as said_topic};
+ghost use Rattle.card.specs.Cards.{weight_score, sketch, blank, once, taken, Parses, Limited, sketched};
 ghost use Rattle.card.specs.Text.{lines};
 
 use crate::fault::CardFault;
@@ -41,17 +41,33 @@ impl Topic {
     }
 }
 
+// What a line says, and which line.
+#[derive(Drop)]
+pub struct Stated<T> {
+    pub value: T,
+    pub line: usize,
+}
+
+// None stands where no line says it.
 #[derive(Drop)]
 pub struct Card {
     pub topics: Vec<Topic>,
     pub bonus: Option<Topic>,
-    pub seen: Vec<u32>,
-    pub pick: usize,
-    pub at_least: usize,
-    // where these stand, if they do
-    pub seen_line: Option<usize>,
-    pub pick_line: Option<usize>,
-    pub at_least_line: Option<usize>,
+    pub seen: Option<Stated<Vec<u32>>>,
+    pub pick: Option<Stated<usize>>,
+    pub at_least: Option<Stated<usize>>,
+}
+
+// Puts a value where none stands yet.
+fn put_once<T: Drop>(slot: &mut Option<T>, line: usize, value: T) -> Result<(), CardFault>
+    ensures told { result ≡ once line (is_some slot.old) tt }
+    ensures put { OnOk result (slot.new ≡ Some value) }
+{
+    if slot.is_some() {
+        return Err(CardFault::Twice(line));
+    }
+    *slot = Some(value);
+    Ok(())
 }
 
 impl Card {
@@ -62,13 +78,34 @@ impl Card {
         Card {
             topics: Vec::new(heap),
             bonus: None,
-            seen: Vec::new(heap),
-            pick: 10,
-            at_least: 1,
-            seen_line: None,
-            pick_line: None,
-            at_least_line: None,
+            seen: None,
+            pick: None,
+            at_least: None,
         }
+    }
+
+    // The ids that the learner has seen.
+    pub fn seen(&self) -> &[u32]
+        ensures { result.now ≡ (sketch self.now).seen_ids }
+    {
+        match &self.seen {
+            Some(seen) => seen.value.as_slice(),
+            None => &[],
+        }
+    }
+
+    // How many to show of a topic.
+    pub fn pick(&self) -> usize
+        ensures { result ≡ (sketch self.now).shown }
+    {
+        self.pick.as_ref().map_or(10, |pick| pick.value)
+    }
+
+    // In how many topics an exercise must be.
+    pub fn at_least(&self) -> usize
+        ensures { result ≡ (sketch self.now).least }
+    {
+        self.at_least.as_ref().map_or(1, |least| least.value)
     }
 
     fn put_topic(&mut self, line: usize, topic: Topic) -> Result<(), CardFault>
@@ -77,52 +114,9 @@ impl Card {
         if self.topics.len() >= 32 {
             return Err(CardFault::TooManyTopics(line));
         }
-        if let Err(_) = self.topics.push(topic) {
-            return Err(CardFault::OutOfMemory(line));
-        }
-        Ok(())
-    }
-
-    fn put_bonus(&mut self, line: usize, topic: Topic) -> Result<(), CardFault>
-        ensures { Reads (λ _. sketch self.new) line result (taken line (sketch self.old) (said_bonus (plain topic))) }
-    {
-        if self.bonus.is_some() {
-            return Err(CardFault::Twice(line));
-        }
-        self.bonus = Some(topic);
-        Ok(())
-    }
-
-    fn put_seen(&mut self, line: usize, ids: Vec<u32>) -> Result<(), CardFault>
-        ensures { Reads (λ _. sketch self.new) line result (taken line (sketch self.old) (said_seen ids.items)) }
-    {
-        if self.seen_line.is_some() {
-            return Err(CardFault::Twice(line));
-        }
-        self.seen = ids;
-        self.seen_line = Some(line);
-        Ok(())
-    }
-
-    fn put_pick(&mut self, line: usize, count: usize) -> Result<(), CardFault>
-        ensures { Reads (λ _. sketch self.new) line result (taken line (sketch self.old) (said_pick count)) }
-    {
-        if self.pick_line.is_some() {
-            return Err(CardFault::Twice(line));
-        }
-        self.pick = count;
-        self.pick_line = Some(line);
-        Ok(())
-    }
-
-    fn put_at_least(&mut self, line: usize, count: usize) -> Result<(), CardFault>
-        ensures { Reads (λ _. sketch self.new) line result (taken line (sketch self.old) (said_at_least count)) }
-    {
-        if self.at_least_line.is_some() {
-            return Err(CardFault::Twice(line));
-        }
-        self.at_least = count;
-        self.at_least_line = Some(line);
+        self.topics
+            .push(topic)
+            .map_err(|_| CardFault::OutOfMemory(line))?;
         Ok(())
     }
 
@@ -133,10 +127,10 @@ impl Card {
         match statement {
             Statement::Nothing => Ok(()),
             Statement::Topic(topic) => self.put_topic(line, topic),
-            Statement::Bonus(topic) => self.put_bonus(line, topic),
-            Statement::Seen(ids) => self.put_seen(line, ids),
-            Statement::Pick(count) => self.put_pick(line, count),
-            Statement::AtLeast(count) => self.put_at_least(line, count),
+            Statement::Bonus(topic) => put_once(&mut self.bonus, line, topic),
+            Statement::Seen(value) => put_once(&mut self.seen, line, Stated { value, line }),
+            Statement::Pick(value) => put_once(&mut self.pick, line, Stated { value, line }),
+            Statement::AtLeast(value) => put_once(&mut self.at_least, line, Stated { value, line }),
         }
     }
 }
@@ -145,6 +139,7 @@ fn read_card(heap: Global, text: &str) -> Result<Card, CardFault>
     ensures { Parses text.now result }
 {
     let mut card = Card::new(heap);
+    // `split_line` hands out one line at a time, so they are counted here
     let mut line: usize = 0;
     let mut left = text.as_bytes();
     while let Some((bytes, rest)) = split_line(left) {

@@ -4,7 +4,8 @@ ghost use Rattle.card.specs.Faults.{line_of};
 use docset::refusal::Refusal;
 use std::fmt;
 
-// What is wrong with a card, and in which line. Lines are counted from 1.
+// What is wrong with a card, and in which line. Lines are counted from 1. Each variant holds its line itself, so that
+// a caller makes and matches a fault in one expression.
 #[derive(Clone, Copy, PartialEq, Debug)]
 pub enum CardFault {
     // The line begins with none of the five words.
@@ -33,17 +34,17 @@ impl CardFault {
         ensures { result ≡ line_of self.now }
     {
         match self {
-            CardFault::UnknownWord(line) => *line,
-            CardFault::BadForm(line) => *line,
-            CardFault::BadName(line) => *line,
-            CardFault::BadWeight(line) => *line,
-            CardFault::BadNumber(line) => *line,
-            CardFault::OutOfRange(line) => *line,
-            CardFault::TooManyTopics(line) => *line,
-            CardFault::Twice(line) => *line,
-            CardFault::NoTopics(line) => *line,
-            CardFault::Ids(line, _) => *line,
-            CardFault::OutOfMemory(line) => *line,
+            CardFault::UnknownWord(line)
+            | CardFault::BadForm(line)
+            | CardFault::BadName(line)
+            | CardFault::BadWeight(line)
+            | CardFault::BadNumber(line)
+            | CardFault::OutOfRange(line)
+            | CardFault::TooManyTopics(line)
+            | CardFault::Twice(line)
+            | CardFault::NoTopics(line)
+            | CardFault::Ids(line, _)
+            | CardFault::OutOfMemory(line) => *line,
         }
     }
 }

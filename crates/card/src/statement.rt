@@ -1,16 +1,15 @@
 // One line of a card.
-ghost use Rattle.std.specs.Prelude.{◌≡◌, vec_items, string_bytes, ◌==◌, slice_index};
-ghost use Rattle.std.specs.Option.{option_map, ok_or};
-ghost use Rattle.std.specs.Str.{bytes_eq};
-ghost use Rattle.card.specs.declared.fault.CardFault.TheVariants.{BadName, BadNumber};
-ghost use Rattle.card.specs.Text.{fields, name, ids_of};
+ghost use Rattle.std.specs.Prelude.{◌≡◌, vec_items, ◌==◌, slice_index, MatchResult};
+ghost use Rattle.std.specs.Option.{option_copied, ok_or};
+ghost use Rattle.card.specs.declared.fault.CardFault.TheVariants.{OutOfMemory};
+ghost use Rattle.card.specs.Text.{fields};
 ghost use Rattle.card.specs.Faults.{Reads};
 ghost use Rattle.card.specs.Statements.{word_of, weight_in, count_in, seen_in, topic_in, plain, said, meant};
 
 use crate::card::Topic;
 use crate::fault::CardFault;
 use crate::text::{read_ids, read_name, read_number, read_weight, split_field, split_once};
-use std::alloc::Global;
+use std::alloc::{AllocError, Global};
 
 // The words that a line may begin with.
 #[derive(Clone, Copy)]
@@ -33,61 +32,35 @@ pub enum Statement {
     AtLeast(usize),
 }
 
-fn is_word(field: &[u8], word: &[u8]) -> bool
-    ensures { result ≡ bytes_eq field.now word.now }
-{
-    field == word
-}
-
 fn read_word(field: &[u8]) -> Option<Word>
     ensures { result ≡ word_of field.now }
 {
-    if is_word(field, b"topic") {
-        return Some(Word::Topic);
+    match field {
+        b"topic" => Some(Word::Topic),
+        b"bonus" => Some(Word::Bonus),
+        b"seen" => Some(Word::Seen),
+        b"pick" => Some(Word::Pick),
+        b"at-least" => Some(Word::AtLeast),
+        _ => None,
     }
-    if is_word(field, b"bonus") {
-        return Some(Word::Bonus);
-    }
-    if is_word(field, b"seen") {
-        return Some(Word::Seen);
-    }
-    if is_word(field, b"pick") {
-        return Some(Word::Pick);
-    }
-    if is_word(field, b"at-least") {
-        return Some(Word::AtLeast);
-    }
-    None
 }
 
 // Whether a field begins a line that says nothing.
 fn is_note(field: &[u8]) -> bool
     ensures { result ≡ (slice_index field.now 0 == 35) }
 {
-    if field.is_empty() {
-        return false;
-    }
-    field[0] == b'#'
+    field.starts_with(b"#")
 }
 
-fn ids_at(heap: Global, line: usize, bytes: &[u8]) -> Result<Vec<u32>, CardFault>
-    ensures { Reads vec_items line result (ok_or (ids_of bytes.now) (BadNumber line)) }
+// What was read at a line: the fault is told where nothing was.
+fn read_at<T: Drop>(
+    line: usize,
+    read: Result<Option<T>, AllocError>,
+    fault: CardFault,
+) -> Result<T, CardFault>
+    ensures { MatchResult read (λ o. result ≡ ok_or o fault) (λ _. result ≡ Err (OutOfMemory line)) }
 {
-    match read_ids(heap, bytes) {
-        Ok(Some(ids)) => Ok(ids),
-        Ok(None) => Err(CardFault::BadNumber(line)),
-        Err(_) => Err(CardFault::OutOfMemory(line)),
-    }
-}
-
-fn name_at(heap: Global, line: usize, bytes: &[u8]) -> Result<String, CardFault>
-    ensures { Reads string_bytes line result (ok_or (name bytes.now) (BadName line)) }
-{
-    match read_name(heap, bytes) {
-        Ok(Some(name)) => Ok(name),
-        Ok(None) => Err(CardFault::BadName(line)),
-        Err(_) => Err(CardFault::OutOfMemory(line)),
-    }
+    read.map_err(|_| CardFault::OutOfMemory(line))?.ok_or(fault)
 }
 
 // The weight in what stands behind a name, 1 where nothing does.
@@ -97,74 +70,71 @@ fn weight_at(line: usize, bytes: &[u8]) -> Result<u32, CardFault>
     let Some((field, rest)) = split_field(bytes) else {
         return Ok(100);
     };
-    if let Some(_) = split_field(rest) {
+    if split_field(rest).is_some() {
         return Err(CardFault::BadForm(line));
     }
-    match read_weight(field) {
-        Some(weight) => Ok(weight),
-        None => Err(CardFault::BadWeight(line)),
-    }
+    read_weight(field).ok_or(CardFault::BadWeight(line))
 }
 
-// What stands behind `topic` or `bonus`.
-fn topic_at(heap: Global, line: usize, bytes: &[u8], ids: Option<&[u8]>) -> Result<Topic, CardFault>
-    ensures { Reads plain line result (topic_in line (fields bytes.now) (option_map (λ x. x.now) ids.entry)) }
-{
-    let Some(ids) = ids else {
-        return Err(CardFault::BadForm(line));
-    };
-    let Some((name, rest)) = split_field(bytes) else {
-        return Err(CardFault::BadForm(line));
-    };
-    let name = name_at(heap, line, name)?;
-    let weight = weight_at(line, rest)?;
-    let ids = ids_at(heap, line, ids)?;
-    Ok(Topic {
-        name,
-        weight,
-        ids,
-        line,
-    })
-}
-
-// What stands behind `seen`.
-fn seen_at(
-    heap: Global,
+// What stands in a line behind its word.
+#[derive(Clone, Copy)]
+struct Rest<'a> {
     line: usize,
-    bytes: &[u8],
-    ids: Option<&[u8]>,
-) -> Result<Vec<u32>, CardFault>
-    ensures { Reads vec_items line result (seen_in line (fields bytes.now) (option_map (λ x. x.now) ids.entry)) }
-{
-    let Some(ids) = ids else {
-        return Err(CardFault::BadForm(line));
-    };
-    if let Some(_) = split_field(bytes) {
-        return Err(CardFault::BadForm(line));
-    }
-    ids_at(heap, line, ids)
+    // up to the first colon
+    front: &'a [u8],
+    // behind that colon, if there is one
+    ids: Option<&'a [u8]>,
 }
 
-// What stands behind `pick` or `at-least`: a number from 1 to `most`.
-fn count_at(line: usize, most: u32, bytes: &[u8], ids: Option<&[u8]>) -> Result<usize, CardFault>
-    ensures { result ≡ count_in line most (fields bytes.now) (option_map (λ x. x.now) ids.entry) }
-{
-    if let Some(_) = ids {
-        return Err(CardFault::BadForm(line));
+impl Rest<'_> {
+    // What stands behind `topic` or `bonus`.
+    fn topic(&self, heap: Global) -> Result<Topic, CardFault>
+        ensures { Reads plain self.now.line result (topic_in self.now.line (fields self.now.front.now) (option_copied self.now.ids)) }
+    {
+        let line = self.line;
+        let ids = self.ids.ok_or(CardFault::BadForm(line))?;
+        let (name, rest) = split_field(self.front).ok_or(CardFault::BadForm(line))?;
+        let name = read_at(line, read_name(heap, name), CardFault::BadName(line))?;
+        let weight = weight_at(line, rest)?;
+        let ids = read_at(line, read_ids(heap, ids), CardFault::BadNumber(line))?;
+        Ok(Topic {
+            name,
+            weight,
+            ids,
+            line,
+        })
     }
-    let Some((field, rest)) = split_field(bytes) else {
-        return Err(CardFault::BadForm(line));
-    };
-    if let Some(_) = split_field(rest) {
-        return Err(CardFault::BadForm(line));
+
+    // What stands behind `seen`.
+    fn seen(&self, heap: Global) -> Result<Vec<u32>, CardFault>
+        ensures { Reads vec_items self.now.line result (seen_in self.now.line (fields self.now.front.now) (option_copied self.now.ids)) }
+    {
+        let line = self.line;
+        let ids = self.ids.ok_or(CardFault::BadForm(line))?;
+        if split_field(self.front).is_some() {
+            return Err(CardFault::BadForm(line));
+        }
+        read_at(line, read_ids(heap, ids), CardFault::BadNumber(line))
     }
-    let Some(count) = read_number(field) else {
-        return Err(CardFault::BadNumber(line));
-    };
-    if count < 1 || count > most {
-        return Err(CardFault::OutOfRange(line));
+
+    // What stands behind `pick` or `at-least`: a number from 1 to `most`.
+    fn count(&self, most: u32) -> Result<usize, CardFault>
+        ensures { result ≡ count_in self.now.line most (fields self.now.front.now) (option_copied self.now.ids) }
+    {
+        let line = self.line;
+        if self.ids.is_some() {
+            return Err(CardFault::BadForm(line));
+        }
+        let (field, rest) = split_field(self.front).ok_or(CardFault::BadForm(line))?;
+        if split_field(rest).is_some() {
+            return Err(CardFault::BadForm(line));
+        }
+        let count = read_number(field).ok_or(CardFault::BadNumber(line))?;
+        if count < 1 || count > most {
+            return Err(CardFault::OutOfRange(line));
+        }
+        Ok(count as usize)
     }
-    Ok(count as usize)
 }
 
 // What a line says, or its fault.
@@ -172,7 +142,7 @@ pub fn read_statement(heap: Global, line: usize, bytes: &[u8]) -> Result<Stateme
     ensures { Reads meant line result (said line bytes.now) }
 {
     let (head, ids) = split_once(bytes, b':');
-    let Some((word, rest)) = split_field(head) else {
+    let Some((word, front)) = split_field(head) else {
         return match ids {
             Some(_) => Err(CardFault::UnknownWord(line)),
             None => Ok(Statement::Nothing),
@@ -181,14 +151,12 @@ pub fn read_statement(heap: Global, line: usize, bytes: &[u8]) -> Result<Stateme
     if is_note(word) {
         return Ok(Statement::Nothing);
     }
-    let Some(word) = read_word(word) else {
-        return Err(CardFault::UnknownWord(line));
-    };
-    match word {
-        Word::Topic => Ok(Statement::Topic(topic_at(heap, line, rest, ids)?)),
-        Word::Bonus => Ok(Statement::Bonus(topic_at(heap, line, rest, ids)?)),
-        Word::Seen => Ok(Statement::Seen(seen_at(heap, line, rest, ids)?)),
-        Word::Pick => Ok(Statement::Pick(count_at(line, 64, rest, ids)?)),
-        Word::AtLeast => Ok(Statement::AtLeast(count_at(line, 32, rest, ids)?)),
+    let rest = Rest { line, front, ids };
+    match read_word(word).ok_or(CardFault::UnknownWord(line))? {
+        Word::Topic => rest.topic(heap).map(Statement::Topic),
+        Word::Bonus => rest.topic(heap).map(Statement::Bonus),
+        Word::Seen => rest.seen(heap).map(Statement::Seen),
+        Word::Pick => rest.count(64).map(Statement::Pick),
+        Word::AtLeast => rest.count(32).map(Statement::AtLeast),
     }
 }

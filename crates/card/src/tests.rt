@@ -78,10 +78,10 @@ fn whole_card(rt: HostRuntime) -> Result<(), Fail> {
     assert_eq!(rt; card.topics[0].line, 3);
     assert_eq!(rt; card.topics[1].weight, 225);
     assert_eq!(rt; card.topics[1].line, 4);
-    assert_eq!(rt; card.seen.len(), 2);
-    assert_eq!(rt; card.seen_line, Some(6));
-    assert_eq!(rt; card.pick, 64);
-    assert_eq!(rt; card.at_least, 32);
+    assert_eq!(rt; card.seen().len(), 2);
+    assert_eq!(rt; card.seen.as_ref().map(|seen| seen.line), Some(6));
+    assert_eq!(rt; card.pick(), 64);
+    assert_eq!(rt; card.at_least(), 32);
     assert!(rt; card.bonus.is_some());
     Ok(())
 }
@@ -91,10 +91,10 @@ fn what_is_not_said(rt: HostRuntime) -> Result<(), Fail> {
     let card = read(rt.alloc(), "topic a:\n")?;
     assert!(rt; card.topics.len() == 1);
     assert!(rt; card.topics[0].ids.is_empty());
-    assert_eq!(rt; card.pick, 10);
-    assert_eq!(rt; card.at_least, 1);
+    assert_eq!(rt; card.pick(), 10);
+    assert_eq!(rt; card.at_least(), 1);
     assert!(rt; card.bonus.is_none());
-    assert_eq!(rt; card.seen_line, None);
+    assert_eq!(rt; card.seen.as_ref().map(|seen| seen.line), None);
     Ok(())
 }
 

@@ -1,6 +1,6 @@
 // Numbers, names and fields, read from the bytes of a line.
 ghost use Rattle.std.specs.Prelude.{◌≡◌, ℕ, ◌<◌, ◌≤◌, T, List, length, IfSome, IfOk, Some, vec_items, string_bytes};
-ghost use Rattle.std.specs.Option.{option_map};
+ghost use Rattle.std.specs.Option.{option_map, option_copied};
 ghost use Rattle.card.specs.Text.{pushed, number, before, after, fields, lines, First, ids_of, cents, weight, name_byte, name, written, Fit};
 
 use std::alloc::{AllocError, Global};
@@ -9,14 +9,8 @@ use std::alloc::{AllocError, Global};
 fn push_digit(value: u32, byte: u8) -> Option<u32>
     ensures { result ≡ pushed value byte }
 {
-    if byte < b'0' || byte > b'9' {
-        return None;
-    }
-    let value = value as u64 * 10 + (byte - b'0') as u64;
-    if value > u32::MAX as u64 {
-        return None;
-    }
-    Some(value as u32)
+    let digit = char::from(byte).to_digit(10)?;
+    value.checked_mul(10)?.checked_add(digit)
 }
 
 // A decimal number of digits alone, at most 4294967295.
@@ -28,37 +22,20 @@ pub fn read_number(bytes: &[u8]) -> Option<u32>
     }
     let mut value: u32 = 0;
     for byte in bytes {
-        let Some(longer) = push_digit(value, *byte) else {
-            return None;
-        };
-        value = longer;
+        value = push_digit(value, *byte)?;
     }
     Some(value)
-}
-
-// How many bytes stand before the first `byte`: all of them, where there is none.
-fn count_before(bytes: &[u8], byte: u8) -> usize
-    ensures { result ≡ length (before byte bytes.now) }
-{
-    for (place, b) in bytes.iter().enumerate() {
-        if *b == byte {
-            return place;
-        }
-    }
-    bytes.len()
 }
 
 // The bytes before the first `byte`, and those after it, where there is one.
 pub fn split_once<'a>(bytes: &'a [u8], byte: u8) -> (&'a [u8], Option<&'a [u8]>)
     ensures front { result.0.now ≡ before byte bytes.now }
-    ensures back { option_map (λ x. x.now) result.1 ≡ after byte bytes.now }
+    ensures back { option_copied result.1 ≡ after byte bytes.now }
     ensures shorter { IfSome result.1 (λ x. length x.now < length bytes.now) }
 {
-    let at = count_before(bytes, byte);
-    let (front, back) = bytes.split_at(at);
-    match back.split_first() {
-        Some((_, rest)) => (front, Some(rest)),
-        None => (front, None),
+    match bytes.iter().position(|b| *b == byte) {
+        Some(at) => (&bytes[..at], Some(&bytes[at + 1..])),
+        None => (bytes, None),
     }
 }
 
@@ -66,24 +43,9 @@ pub fn split_once<'a>(bytes: &'a [u8], byte: u8) -> (&'a [u8], Option<&'a [u8]>)
 pub fn split_field<'a>(bytes: &'a [u8]) -> Option<(&'a [u8], &'a [u8])>
     ensures { First fields bytes.now result }
 {
-    let mut left = bytes;
-    loop {
-        let (front, back) = split_once(left, b' ');
-        match back {
-            Some(rest) => {
-                if !front.is_empty() {
-                    return Some((front, rest));
-                }
-                left = rest;
-            }
-            None => {
-                if front.is_empty() {
-                    return None;
-                }
-                return Some((front, &front[0..0]));
-            }
-        }
-    }
+    let start = bytes.iter().position(|b| *b != b' ')?;
+    let (field, rest) = split_once(&bytes[start..], b' ');
+    Some((field, rest.unwrap_or(&[])))
 }
 
 // The first line without its line feed, and what stands behind that.
@@ -93,13 +55,12 @@ pub fn split_line<'a>(bytes: &'a [u8]) -> Option<(&'a [u8], &'a [u8])>
     if bytes.is_empty() {
         return None;
     }
-    let (front, back) = split_once(bytes, b'\n');
-    match back {
-        Some(rest) => Some((front, rest)),
-        None => Some((front, &front[0..0])),
-    }
+    let (line, rest) = split_once(bytes, b'\n');
+    Some((line, rest.unwrap_or(&[])))
 }
 
+// The numbers of a line, or none if one of its fields is no number. Only memory fails, so that is no error here: the
+// caller knows which fault it is.
 fn numbers_of(heap: Global, bytes: &[u8]) -> Result<Option<Vec<u32>>, AllocError>
     ensures { IfOk result (λ o. option_map vec_items o ≡ ids_of bytes.now) }
 {
@@ -115,7 +76,7 @@ fn numbers_of(heap: Global, bytes: &[u8]) -> Result<Option<Vec<u32>>, AllocError
     Ok(Some(ids))
 }
 
-// The numbers of a line, or none if one of its fields is no number. What is written is read back.
+// The same; what is written is read back.
 pub fn read_ids(heap: Global, bytes: &[u8]) -> Result<Option<Vec<u32>>, AllocError>
     ensures value { IfOk result (λ o. option_map vec_items o ≡ ids_of bytes.now) }
     ensures back { (ns : List ℕ) → Fit ns → bytes.now ≡ written ns → IfOk result (λ o. option_map vec_items o ≡ Some ns) }
@@ -157,10 +118,10 @@ fn is_name_byte(byte: u8) -> bool
     ensures value { result ≡ name_byte byte }
     ensures ascii { T result → byte < 128 }
 {
-    byte.is_ascii_digit() || byte.is_ascii_alphabetic() || byte == b'-' || byte == b'_'
+    byte.is_ascii_alphanumeric() || byte == b'-' || byte == b'_'
 }
 
-// A name of letters, digits, `-` and `_`.
+// A name of letters, digits, `-` and `_`, or none if the text is no name.
 pub fn read_name(heap: Global, bytes: &[u8]) -> Result<Option<String>, AllocError>
     ensures { IfOk result (λ o. option_map string_bytes o ≡ name bytes.now) }
 {

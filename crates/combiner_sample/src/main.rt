@@ -5,24 +5,15 @@
 use anyhow::anyhow;
 use combiner::score_combiner::{DisjunctionMaxCombiner, DoNothingCombiner, SumCombiner, combine};
 use combiner::size_hint::estimate_union;
-use std::alloc::Global;
 use std::num::{f32_from_bits_with_nan, f32_to_bits_with_nan};
 
-// Scores, each written as the eight hexadecimal digits of its bits.
-fn read_scores(heap: Global, text: &str) -> anyhow::Result<Vec<f32>> {
-    let mut scores = Vec::new(heap);
-    for word in text.split_whitespace() {
-        scores.push(f32_from_bits_with_nan(u32::from_str_radix(word, 16)?))?;
-    }
-    Ok(scores)
+// A score, written as the eight hexadecimal digits of its bits.
+fn read_score(word: &str) -> anyhow::Result<f32> {
+    Ok(f32_from_bits_with_nan(u32::from_str_radix(word, 16)?))
 }
 
-fn read_sizes(heap: Global, text: &str) -> anyhow::Result<Vec<u32>> {
-    let mut sizes = Vec::new(heap);
-    for word in text.split_whitespace() {
-        sizes.push(word.parse::<u32>()?)?;
-    }
-    Ok(sizes)
+fn read_size(word: &str) -> anyhow::Result<u32> {
+    Ok(word.parse::<u32>()?)
 }
 
 // The answer for a row of scores, whose first word says which combiner.
@@ -53,11 +44,17 @@ fn estimated(numbers: &[u32]) -> anyhow::Result<u32> {
 fn print_answer(rt: &HostRuntime, row: &str) -> anyhow::Result<()> {
     let (name, rest) = row.split_once(' ').unwrap_or((row, ""));
     if name == "union" {
-        let numbers = read_sizes(rt.alloc(), rest)?;
+        let numbers: Vec<u32> = rest
+            .split_whitespace()
+            .map(read_size)
+            .try_collect(rt.alloc())?;
         let answer = estimated(numbers.as_slice())?;
         println!(rt; "{answer}")?;
     } else {
-        let scores = read_scores(rt.alloc(), rest)?;
+        let scores: Vec<f32> = rest
+            .split_whitespace()
+            .map(read_score)
+            .try_collect(rt.alloc())?;
         let answer = f32_to_bits_with_nan(combined(name, scores.as_slice())?);
         println!(rt; "{answer:08X}")?;
     }

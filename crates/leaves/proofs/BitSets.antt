@@ -4,7 +4,7 @@ use Rattle.std.proofs.lemmas.Bool.{cases_lt, cases_eq, ltb-false, eqb-true, eq-e
 use Rattle.docset.specs.Meaning.{TERM, calm, ones, one_score, zero_score, RisingIds}
 use Rattle.docset.specs.Calls.{Told, Moved, Sought, Scored}
 use Rattle.docset.specs.Bits.{bit_set}
-use Rattle.docset.specs.declared.refusal.Refusal.TheVariants.{SegmentTooLarge, WrongWordCount, BitPastEnd}
+use Rattle.docset.specs.declared.refusal.Refusal.TheVariants.{SegmentTooLarge, WrongWordCount}
 use Rattle.docset.proofs.Lists.{from_all}
 use Rattle.docset.proofs.Probes.{sought_told}
 use Rattle.leaves.specs.Bits.{bits_from, stands, past_end, words_for, bits_refusal}
@@ -12,15 +12,9 @@ use Rattle.leaves.proofs.Leaves.{told_cons, told_end, moved_cons, moved_end, sco
 use Rattle.leaves.proofs.Ranges.{between_hit, between_none, between_rises_0, from_between, first_cut, some_between, none_between}
 use Rattle.leaves.proofs.Words.{bit_past}
 
-some_none : {X : Type 0} (x : X) → ◌≡◌ {A = Option X} (Some x) None → ⊥
-some_none x e = let z : ◌≡◌ {A = ℕ} 0 1 = cc in omega arith
-
-true_false : true ≡ false → ⊥
-true_false e = let z : ◌≡◌ {A = ℕ} 0 1 = cc in omega arith
-
 nothing_first : (xs : List ℕ) → slice_get xs 0 ≡ None → xs ≡ []
 nothing_first [] e = refl
-nothing_first (x ∷ xs) e = absurd (some_none x e)
+nothing_first (x ∷ xs) e = cc
 
 -- where a leaf stands is the end, or a bit that is set
 pub stands_end : (ws : List ℕ) (d : ℕ) → d ≡ TERM → stands ws d ≡ true
@@ -36,12 +30,12 @@ set_stands ws d e ne = sym (ap (λ (b : Bool). cond b true (bit_set ws d)) (ne_e
 -- a bit that is set lies in the words
 inside : (ws : List ℕ) (d : ℕ) → bit_set ws d ≡ true → d < 64 * length ws
 inside ws d e =
-    ⊎_elim {C = d < 64 * length ws} (λ l. l) (λ l. absurd (true_false (sym e ∙ bit_past ws d l))) (cases_lt d (64 * length ws))
+    ⊎_elim {C = d < 64 * length ws} (λ l. l) (λ l. cc (sym e ∙ bit_past ws d l)) (cases_lt d (64 * length ws))
 
 -- the words of a leaf: no bit from max on is set
 module _ (ws : List ℕ) (max : ℕ) (s : max ≤ TERM) (clear : (k : ℕ) → max ≤ k → bit_set ws k ≡ false) where
   ids_small : (k : ℕ) → k < 64 * length ws → bit_set ws k ≡ true → k < TERM
-  ids_small k h e = ⊎_elim {C = k < TERM} (λ l. omega arith) (λ l. absurd (true_false (sym e ∙ clear k l))) (cases_lt k max)
+  ids_small k h e = ⊎_elim {C = k < TERM} (λ l. omega arith) (λ l. cc (sym e ∙ clear k l)) (cases_lt k max)
 
   pub bits_rise : (lo : ℕ) → RisingIds 0 (bits_from ws lo)
   bits_rise lo = between_rises_0 (bit_set ws) lo (64 * length ws) ids_small
@@ -128,7 +122,7 @@ module _ (ws : List ℕ) (max : ℕ) (s : max ≤ TERM) (clear : (k : ℕ) → m
 
 none_past : (xs : List ℕ) → past_end xs ≡ None → slice_get xs 0 ≡ None
 none_past [] e = refl
-none_past (x ∷ xs) e = absurd (some_none BitPastEnd e)
+none_past (x ∷ xs) e = cc
 
 -- words that are not refused have no bit from max on
 pub kept_clear : (ws : List ℕ) (max : ℕ) → past_end (bits_from ws max) ≡ None → (k : ℕ) → max ≤ k → bit_set ws k ≡ false
@@ -146,12 +140,12 @@ pub record Kept (ws : List ℕ) (max : ℕ) : Type 0 where
 
 -- a test that would refuse was false, or true
 not_taken : {X : Type 0} (b : Bool) (x : X) (o : Option X) → cond b (Some x) o ≡ None → (b ≡ false) × (o ≡ None)
-not_taken true x o e = absurd (some_none x e)
+not_taken true x o e = cc
 not_taken false x o e = (refl, e)
 
 taken : {X : Type 0} (b : Bool) (x : X) (o : Option X) → cond b o (Some x) ≡ None → (b ≡ true) × (o ≡ None)
 taken true x o e = (refl, e)
-taken false x o e = absurd (some_none x e)
+taken false x o e = cc
 
 pub kept_words : (ws : List ℕ) (max : ℕ) → bits_refusal ws max ≡ None → Kept ws max
 kept_words ws max e =

@@ -1,15 +1,11 @@
 -- The two searches for ids at fault, and what holds of a list in which they find none.
-use Rattle.std.proofs.Common.{◌≡◌, ℕ, zero, suc, ◌+◌, ◌<◌, ◌≤◌, ltb, leb, List, [], ◌∷◌, length, get_or, take, drop, Some, None, Option, sym, refl, ap, ◌∙◌, ⊎_elim, le_of_suc-le-suc, not-suc-le-zero, add-zero, arith, length-drop, get_or-take, get_or-drop}
+use Rattle.std.proofs.Common.{◌≡◌, ℕ, zero, suc, ◌+◌, ◌<◌, ◌≤◌, ltb, leb, List, [], ◌∷◌, length, get_or, take, drop, Some, None, Option, sym, refl, ap, ◌∙◌, ⊎_elim, le_of_suc-le-suc, not-suc-le-zero, add-zero, arith, length-drop, get_or-take, get_or-drop, drop_of_length-le}
 use Rattle.std.proofs.lemmas.Bool.{leb-false, lt-ltb, le-ltb, cond-true, cond-false, cases_lt}
+use Rattle.std.proofs.Math.Seq.{drop-cons}
 use Rattle.std.specs.List.{position_or_len}
 use Rattle.std.proofs.lemmas.List.Sums.{fails_before_first}
-use Rattle.docset.specs.declared.refusal.Refusal.TheVariants.{NotRising, TooLarge}
 use Rattle.docset.specs.Meaning.{TERM}
 use Rattle.leaves.specs.Lists.{first_large, first_flat, first_flat_after, refused_by, ids_refusal, Small, Rises}
-use Rattle.leaves.proofs.Leaves.{slice_cons, slice_none}
-
-some_none : {X : Type 0} (x : X) → ◌≡◌ {A = Option X} (Some x) None → ⊥
-some_none x e = let z : ◌≡◌ {A = ℕ} 0 1 = cc in omega arith
 
 -- ---- one step of each search
 
@@ -32,13 +28,13 @@ flat_start (x ∷ xs) = refl
 pub flat_found :
     (xs : List ℕ) (i : ℕ) → i + 1 < length xs → get_or xs (i + 1) 0 ≤ get_or xs i 0 → flat_from xs i ≡ Some (i + 1)
 flat_found xs i h k =
-    ap (first_flat_after (get_or xs i 0) (i + 1)) (slice_cons xs (i + 1) h) ∙
+    ap (first_flat_after (get_or xs i 0) (i + 1)) (drop-cons xs (i + 1) 0 h) ∙
     flat_here (get_or xs i 0) (i + 1) (get_or xs (i + 1) 0) (drop (suc (i + 1)) xs) k
 
 pub flat_more :
     (xs : List ℕ) (i : ℕ) → i + 1 < length xs → get_or xs i 0 < get_or xs (i + 1) 0 → flat_from xs i ≡ flat_from xs (i + 1)
 flat_more xs i h k =
-    ap (first_flat_after (get_or xs i 0) (i + 1)) (slice_cons xs (i + 1) h) ∙
+    ap (first_flat_after (get_or xs i 0) (i + 1)) (drop-cons xs (i + 1) 0 h) ∙
     flat_later (get_or xs i 0) (i + 1) (get_or xs (i + 1) 0) (drop (suc (i + 1)) xs) k ∙
     ap (λ (n : ℕ). first_flat_after (get_or xs (i + 1) 0) n (drop n xs)) one_more
   where
@@ -46,7 +42,7 @@ flat_more xs i h k =
     one_more = omega arith
 
 pub flat_none : (xs : List ℕ) (i : ℕ) → length xs ≤ i + 1 → flat_from xs i ≡ None
-flat_none xs i h = ap (first_flat_after (get_or xs i 0) (i + 1)) (slice_none xs (i + 1) h)
+flat_none xs i h = ap (first_flat_after (get_or xs i 0) (i + 1)) (drop_of_length-le xs {i = i + 1} h)
 
 -- the two places that a window at i shows
 pub record Neighbours (xs w : List ℕ) (i : ℕ) : Type 0 where
@@ -70,7 +66,7 @@ large_small : (xs : List ℕ) → first_large xs ≡ None → Small xs (length x
 large_small xs e k h =
     let n : ℕ = position_or_len (leb TERM) xs in
     ⊎_elim {C = get_or xs k 0 < TERM}
-    (λ l. absurd (some_none n (sym (cond-true (ltb n (length xs)) (Some n) None (lt-ltb n (length xs) l)) ∙ e)))
+    (λ l. cc (sym (cond-true (ltb n (length xs)) (Some n) None (lt-ltb n (length xs) l)) ∙ e))
     (λ l. leb-false TERM (get_or xs k 0) (fails_before_first (leb TERM) xs k 0 (omega arith)))
     (cases_lt n (length xs))
 
@@ -83,17 +79,17 @@ flat_rises p i [] e = λ k h. absurd (omega arith)
 flat_rises p i (x ∷ xs) e =
     ⊎_elim {C = Rises (p ∷ x ∷ xs) (length (p ∷ x ∷ xs))}
     (λ l. rises_cons p x xs l (flat_rises x (suc i) xs (sym (flat_later p i x xs l) ∙ e)))
-    (λ l. absurd (some_none i (sym (flat_here p i x xs l) ∙ e)))
+    (λ l. cc (sym (flat_here p i x xs l) ∙ e))
     (cases_lt p x)
 
 none_large : (a b : Option ℕ) → refused_by a b ≡ None → a ≡ None
 none_large None b e = refl
-none_large (Some x) b e = absurd (some_none (TooLarge x) e)
+none_large (Some x) b e = cc
 
 none_flat : (a b : Option ℕ) → refused_by a b ≡ None → b ≡ None
 none_flat None None e = refl
-none_flat None (Some x) e = absurd (some_none (NotRising x) e)
-none_flat (Some x) b e = absurd (some_none (TooLarge x) e)
+none_flat None (Some x) e = cc
+none_flat (Some x) b e = cc
 
 pub kept_small : (xs : List ℕ) → ids_refusal xs ≡ None → Small xs (length xs)
 kept_small xs e = large_small xs (none_large (first_large xs) (first_flat xs) e)

@@ -1,5 +1,6 @@
 -- Leaves as lists: what a leaf tells when it stands on, passes or has passed its last id.
-use Rattle.std.proofs.Common.{◌≡◌, ℕ, zero, suc, ◌-◌, ◌<◌, ◌≤◌, cond, eqb, List, [], ◌∷◌, length, get_or, drop, sym, refl, ap, ◌∙◌, subst, inl, inr, le_of_suc-le-suc, not-suc-le-zero, arith, length-drop, drop_of_length-le}
+use Rattle.std.proofs.Common.{◌≡◌, ℕ, zero, suc, ◌-◌, ◌<◌, ◌≤◌, cond, eqb, List, [], ◌∷◌, length, get_or, drop, sym, refl, ap, ◌∙◌, subst, inl, inr, arith, length-drop, drop_of_length-le}
+use Rattle.std.proofs.Math.Seq.{drop-cons}
 use Rattle.docset.specs.Meaning.{Meaning, TERM, calm, ids, first_id, zero_score, one_score, ones, Rising, RisingIds}
 use Rattle.docset.specs.Calls.{Told, Moved, Sought, Probed, Scored, Counted}
 use Rattle.docset.specs.declared.docset.SeekDangerResult.{SeekDangerResult}
@@ -101,15 +102,6 @@ slice_rises xs c s r = rising_drop c 0 xs (rising_at 0 xs s r (λ h. omega arith
 pub slice_short : (xs : List ℕ) → Small xs (length xs) → Rises xs (length xs) → length xs ≤ TERM
 slice_short xs s r = omega (arith, short_from 0 xs (slice_rises xs 0 s r) (omega arith))
 
--- a place inside: the id there is the first of what is left
-pub slice_cons : (xs : List ℕ) (c : ℕ) → c < length xs → drop c xs ≡ get_or xs c 0 ∷ drop (suc c) xs
-slice_cons [] c h = absurd (not-suc-le-zero h)
-slice_cons (x ∷ xs) zero h = refl
-slice_cons (x ∷ xs) (suc c) h = slice_cons xs c (le_of_suc-le-suc h)
-
-pub slice_none : (xs : List ℕ) (c : ℕ) → length xs ≤ c → drop c xs ≡ []
-slice_none xs c h = drop_of_length-le xs {i = c} h
-
 -- the id at a place, or TERM past the last, is the first of what is left
 first_at : (xs : List ℕ) (c : ℕ) → get_or xs c TERM ≡ first_id (ones (drop c xs))
 first_at [] zero = refl
@@ -129,17 +121,17 @@ slice_told xs c d s r e =
     told_ones (drop c xs) d rises at (omega (arith, first_small (drop c xs) rises))
 
 pub slice_moved : (xs : List ℕ) (c d : ℕ) → c < length xs → Told (listed xs (suc c)) d → Moved (listed xs c) (listed xs (suc c)) d
-slice_moved xs c d h t = moved_cons (drop c xs) (get_or xs c 0) (drop (suc c) xs) d (slice_cons xs c h) t
+slice_moved xs c d h t = moved_cons (drop c xs) (get_or xs c 0) (drop (suc c) xs) d (drop-cons xs c 0 h) t
 
 pub slice_stays :
     (xs : List ℕ) (c d : ℕ) → length xs ≤ c → Told (listed xs c) d → Moved (listed xs c) (listed xs c) d
-slice_stays xs c d h t = moved_end (drop c xs) d (slice_none xs c h) t
+slice_stays xs c d h t = moved_end (drop c xs) d (drop_of_length-le xs {i = c} h) t
 
 pub slice_scored : (xs : List ℕ) (c : ℕ) → c < length xs → Scored (listed xs c) (listed xs c) one_score
-slice_scored xs c h = scored_cons (drop c xs) (get_or xs c 0) (drop (suc c) xs) (slice_cons xs c h)
+slice_scored xs c h = scored_cons (drop c xs) (get_or xs c 0) (drop (suc c) xs) (drop-cons xs c 0 h)
 
 pub slice_scored_end : (xs : List ℕ) (c : ℕ) → length xs ≤ c → Scored (listed xs c) (listed xs c) zero_score
-slice_scored_end xs c h = scored_end (drop c xs) (slice_none xs c h)
+slice_scored_end xs c h = scored_end (drop c xs) (drop_of_length-le xs {i = c} h)
 
 pub slice_counted : (xs : List ℕ) (c : ℕ) → Counted (listed xs c) (length xs - c)
 slice_counted xs c = record { tells = λ _. sym (length_ones (drop c xs) ∙ length-drop c xs) }

@@ -157,16 +157,13 @@ none_is f lo hi h =
     (cases_lt lo hi)
 
 -- and back: what the first tells of the range
-some_none : {X : Type 0} (x : X) → ◌≡◌ {A = Option X} (Some x) None → ⊥
-some_none x e = let z : ◌≡◌ {A = ℕ} 0 1 = cc in omega arith
-
 at_or_above : (lo k : ℕ) → lo ≤ k → (k ≡ lo) ⊎ (suc lo ≤ k)
 at_or_above lo k h = ⊎_elim (λ l. inr l) (λ l. inl (omega arith)) (cases_lt lo k)
 
 none_step :
     (f : ℕ → Bool) (lo n : ℕ) (b : Bool) → f lo ≡ b → slice_get (those f lo (suc n)) 0 ≡ None →
     (f lo ≡ false) × (slice_get (those f (suc lo) n) 0 ≡ None)
-none_step f lo n true e h = absurd (some_none lo (sym (ap (λ (l : List ℕ). slice_get l 0) (those_hit f lo n e)) ∙ h))
+none_step f lo n true e h = cc (sym (ap (λ (l : List ℕ). slice_get l 0) (those_hit f lo n e)) ∙ h)
 none_step f lo n false e h = (e, sym (ap (λ (l : List ℕ). slice_get l 0) (those_miss f lo n e)) ∙ h)
 
 none_those : (f : ℕ → Bool) (lo n : ℕ) → slice_get (those f lo n) 0 ≡ None → (k : ℕ) → lo ≤ k → k < lo + n → f k ≡ false
@@ -192,7 +189,7 @@ later f lo hi x e h =
 
 some_those : (f : ℕ → Bool) (lo n x : ℕ) → slice_get (those f lo n) 0 ≡ Some x → First f lo (lo + n) x
 unfolding those
-some_those f lo zero x e = absurd (some_none x (sym e))
+some_those f lo zero x e = cc
 some_those f lo (suc n) x e = some_step (f lo) refl (some_those f (suc lo) n x)
   where
     some_step :
@@ -217,7 +214,7 @@ some_between f lo hi x e =
     (λ l.
     let w : lo + (hi - lo) ≡ hi = omega arith in
     subst (λ (y : ℕ). First f lo y x) w (some_those f lo (hi - lo) x e))
-    (λ l. absurd (some_none x (sym e ∙ ap (λ (l : List ℕ). slice_get l 0) (between_end f lo hi l))))
+    (λ l. cc (sym e ∙ ap (λ (l : List ℕ). slice_get l 0) (between_end f lo hi l)))
     (cases_lt lo hi)
 
 -- ---- runs: all numbers pass

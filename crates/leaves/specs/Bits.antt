@@ -1,11 +1,15 @@
 -- Leaves over words of bits: what is refused, and what is listed.
-use Rattle.std.specs.Prelude.{ℕ, ◌+◌, ◌*◌, ◌/◌, ◌%◌, ◌^◌, Bool, true, cond, List, length, Some, Option, ◌==◌, count_ones, nat_lt, slice_get, sum_by}
+use Rattle.std.specs.Prelude.{ℕ, ◌+◌, ◌*◌, ◌/◌, ◌%◌, ◌^◌, ◌≤◌, Bool, true, cond, List, length, Some, Option, ◌==◌, count_ones, nat_lt, slice_get, sum_by}
 use Rattle.std.specs.Option.{option_map}
 use Rattle.docset.specs.declared.refusal.Refusal.{Refusal}
 use Rattle.docset.specs.declared.refusal.Refusal.TheVariants.{SegmentTooLarge, WrongWordCount, BitPastEnd}
 use Rattle.docset.specs.Meaning.{TERM}
 use Rattle.docset.specs.Bits.{bit_set}
 use Rattle.leaves.specs.Ranges.{between}
+
+-- words with no more than 2 ^ 31 bits, so that 32 bits tell where one stands
+abbrev pub Few : List ℕ → Type 0
+Few ws = length ws ≤ 33554432
 
 -- whether bit k, lowest first, of the word is set
 abbrev pub bit_of : ℕ → ℕ → Bool

@@ -1,10 +1,10 @@
-ghost use Rattle.std.specs.Prelude.{◌≡◌, ℕ, ◌<◌, ◌≤◌, true, false, length, slice_get};
+ghost use Rattle.std.specs.Prelude.{◌≡◌, ℕ, ◌<◌, ◌≤◌, true, false, slice_get};
 ghost use Rattle.std.specs.Option.{unwrap_or};
 ghost use Rattle.docset.specs.Bits.{bit_set};
 ghost use Rattle.docset.specs.Meaning.{calm, ones};
 ghost use Rattle.leaves.specs.Lists.{kept_ids};
 ghost use Rattle.leaves.specs.Ranges.{between};
-ghost use Rattle.leaves.specs.Bits.{bit_of, bits_from, bits_refusal, ones_in, stands};
+ghost use Rattle.leaves.specs.Bits.{Few, bit_of, bits_from, bits_refusal, ones_in, stands};
 
 use docset::docset::{DocSet, SeekDangerResult, TERMINATED};
 use docset::refusal::Refusal;
@@ -19,7 +19,7 @@ pub struct BitSetDocSet<'a> {
     len: u32,
     doc: u32,
     ghost small: { max_value ≤ 2147483647 },
-    ghost few: { length docs.now ≤ 33554432 },
+    ghost few: { Few docs.now },
     ghost clear: { (k : ℕ) → max_value ≤ k → bit_set docs.now k ≡ false },
     ghost counted: { len ≡ ones_in docs.now },
     ghost current: { stands docs.now doc ≡ true },
@@ -39,7 +39,7 @@ fn lowest_bit(word: u64, from: u32) -> Option<u32>
 
 // The first id from `from` on whose bit is set.
 fn first_bit(words: &[u64], from: u32) -> Option<u32>
-    requires { length words.now ≤ 33554432 }
+    requires { Few words.now }
     ensures { result ≡ slice_get (bits_from words.now from) 0 }
 {
     let mut bit = from % 64;
@@ -55,7 +55,7 @@ fn first_bit(words: &[u64], from: u32) -> Option<u32>
 
 // The same, with TERMINATED for none.
 fn doc_from(words: &[u64], from: u32) -> u32
-    requires { length words.now ≤ 33554432 }
+    requires { Few words.now }
     ensures { result ≡ unwrap_or (slice_get (bits_from words.now from) 0) 2147483647 }
 {
     first_bit(words, from).unwrap_or(TERMINATED)
@@ -63,7 +63,7 @@ fn doc_from(words: &[u64], from: u32) -> u32
 
 // The number of ones.
 fn count_ones(words: &[u64]) -> u32
-    requires { length words.now ≤ 33554432 }
+    requires { Few words.now }
     ensures { result ≡ ones_in words.now }
 {
     words.iter().map(|word| word.count_ones()).sum()

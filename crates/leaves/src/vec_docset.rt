@@ -41,10 +41,7 @@ pub fn check_ids(doc_ids: &[u32]) -> Option<Refusal>
     if let Some(place) = find_large(doc_ids) {
         return Some(Refusal::TooLarge(place));
     }
-    if let Some(place) = find_flat(doc_ids) {
-        return Some(Refusal::NotRising(place));
-    }
-    None
+    find_flat(doc_ids).map(Refusal::NotRising)
 }
 
 impl<'a> VecDocSet<'a> {

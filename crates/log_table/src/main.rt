@@ -16,26 +16,32 @@ use docset::scorer::Scorer;
 use leaves::all_scorer::AllScorer;
 use leaves::bitset::BitSetDocSet;
 use leaves::vec_docset::VecDocSet;
-use logs::call::Last;
-use logs::replay::{replay, replay_to_end};
-use print::{print_answers, print_refusal};
+use logs::replay::replay_to_end;
+use print::{Answered, Refused};
 use read::{Leaf, Script, read_leaf, read_script};
 
 fn play<S: Scorer>(
     rt: &HostRuntime,
     refusal: Option<Refusal>,
-    mut set: S,
+    set: S,
     script: &Script,
 ) -> anyhow::Result<()> {
-    print_refusal(rt, refusal)?;
-    let answers = match script.last {
-        Last::Keep => replay(rt.alloc(), &mut set, script.calls.as_slice())?,
-        last => {
-            let alive = AliveBitSet::new(script.alive.as_slice());
-            replay_to_end(rt.alloc(), set, script.calls.as_slice(), last, &alive)?
-        }
-    };
-    print_answers(rt, answers.as_slice())
+    if let Some(refusal) = refusal {
+        print!(rt; "{}, ", Refused(refusal))?;
+    }
+    let alive = AliveBitSet::new(script.alive.as_slice());
+    let answers = replay_to_end(
+        rt.alloc(),
+        set,
+        script.calls.as_slice(),
+        script.last,
+        &alive,
+    )?;
+    for answer in answers.as_slice() {
+        print!(rt; "{}, ", Answered(answer))?;
+    }
+    println!(rt; "end")?;
+    Ok(())
 }
 
 fn play_line(rt: &HostRuntime, line: &str) -> anyhow::Result<()> {

@@ -1,55 +1,48 @@
 // Answers as text: an id as it is, a score by its bits, a buffer with its runs of one value as value*times.
 use docset::refusal::Refusal;
 use logs::call::Answer;
+use std::fmt;
 use std::num::f32_to_bits_with_nan;
 
 // Of a refused leaf, which is empty: the number of the refusal, and the place of the id at fault.
-pub fn print_refusal(rt: &HostRuntime, refusal: Option<Refusal>) -> anyhow::Result<()> {
-    let Some(refusal) = refusal else {
-        return Ok(());
-    };
-    let number = refusal.number();
-    match refusal.place() {
-        Some(place) => print!(rt; "refused {number} at {place}, ")?,
-        None => print!(rt; "refused {number}, ")?,
-    }
-    Ok(())
-}
+#[derive(Drop)]
+pub struct Refused(pub Refusal);
 
-fn print_buffer(rt: &HostRuntime, buffer: &[u32; 64]) -> anyhow::Result<()> {
-    let mut value = buffer[0];
-    let mut times: u32 = 0;
-    for place in buffer {
-        if *place == value {
-            times = times.saturating_add(1);
-        } else {
-            print!(rt; " {value}*{times}")?;
-            value = *place;
-            times = 1;
+impl fmt::Display for Refused {
+    fn fmt<W: fmt::Write>(&self, f: &mut fmt::Formatter<W>) -> fmt::Result {
+        let number = self.0.number();
+        match self.0.place() {
+            Some(place) => write!(f, "refused {number} at {place}"),
+            None => write!(f, "refused {number}"),
         }
     }
-    print!(rt; " {value}*{times}")?;
-    Ok(())
 }
 
-pub fn print_answers(rt: &HostRuntime, answers: &[Answer]) -> anyhow::Result<()> {
-    for answer in answers {
-        match answer {
-            Answer::Id(id) => print!(rt; "{id}, ")?,
-            Answer::Points(score) => {
-                let bits = f32_to_bits_with_nan(*score);
-                print!(rt; "score {bits:08x}, ")?
-            }
-            Answer::Hit => print!(rt; "hit, ")?,
-            Answer::Miss => print!(rt; "miss, ")?,
-            Answer::Written(written, buffer) => {
-                print!(rt; "block of {written}:")?;
-                print_buffer(rt, buffer)?;
-                print!(rt; ", ")?
-            }
-            Answer::Number(number) => print!(rt; "count {number}, ")?,
+#[derive(Drop)]
+struct Runs<'a>(&'a [u32; 64]);
+
+impl<'a> fmt::Display for Runs<'a> {
+    fn fmt<W: fmt::Write>(&self, f: &mut fmt::Formatter<W>) -> fmt::Result {
+        let buffer = self.0;
+        for run in buffer.chunk_by(|value, next| value == next) {
+            write!(f, " {}*{}", run[0], run.len())?;
+        }
+        Ok(())
+    }
+}
+
+#[derive(Drop)]
+pub struct Answered<'a>(pub &'a Answer);
+
+impl<'a> fmt::Display for Answered<'a> {
+    fn fmt<W: fmt::Write>(&self, f: &mut fmt::Formatter<W>) -> fmt::Result {
+        match self.0 {
+            Answer::Id(id) => write!(f, "{id}"),
+            Answer::Points(score) => write!(f, "score {:08x}", f32_to_bits_with_nan(*score)),
+            Answer::Hit => write!(f, "hit"),
+            Answer::Miss => write!(f, "miss"),
+            Answer::Written(written, buffer) => write!(f, "block of {written}:{}", Runs(buffer)),
+            Answer::Number(number) => write!(f, "count {number}"),
         }
     }
-    println!(rt; "end")?;
-    Ok(())
 }

@@ -23,14 +23,8 @@ pub struct Script {
     pub alive: Vec<u64>,
 }
 
-// What the next word is.
-#[derive(Clone, Copy)]
-enum Next {
-    Call,
-    Target,
-    ProbeTarget,
-    Word,
-    Nothing,
+fn read_number(word: &str) -> anyhow::Result<u32> {
+    Ok(word.parse::<u32>()?)
 }
 
 fn read_word(word: &str) -> anyhow::Result<u64> {
@@ -38,80 +32,62 @@ fn read_word(word: &str) -> anyhow::Result<u64> {
 }
 
 fn read_size(word: Option<&str>) -> anyhow::Result<u32> {
-    let Some(word) = word else {
-        return Err(anyhow!("a leaf without its number of documents"));
-    };
-    Ok(word.parse::<u32>()?)
+    read_number(word.context("a leaf without its number of documents")?)
+}
+
+fn read_target(word: Option<&str>) -> anyhow::Result<u32> {
+    read_number(word.context("a call without its target")?)
 }
 
 pub fn read_leaf(heap: Global, text: &str) -> anyhow::Result<Leaf> {
-    let mut parts = text.split_whitespace();
-    match parts.next() {
-        Some("v") => {
-            let mut ids = Vec::new(heap);
-            for word in parts {
-                ids.push(word.parse::<u32>()?)?;
-            }
-            Ok(Leaf::Ids(ids))
-        }
+    let mut words = text.split_whitespace();
+    match words.next() {
+        Some("v") => Ok(Leaf::Ids(words.map(read_number).try_collect(heap)?)),
         Some("b") => {
-            let size = read_size(parts.next())?;
-            let mut words = Vec::new(heap);
-            for word in parts {
-                words.push(read_word(word)?)?;
-            }
-            Ok(Leaf::Bits(size, words))
+            let size = read_size(words.next())?;
+            Ok(Leaf::Bits(size, words.map(read_word).try_collect(heap)?))
         }
-        Some("a") => Ok(Leaf::All(read_size(parts.next())?)),
+        Some("a") => Ok(Leaf::All(read_size(words.next())?)),
         _ => Err(anyhow!("a leaf that is neither v, b nor a")),
-    }
-}
-
-// A call of one word.
-fn short_call(word: &str) -> Option<Call> {
-    match word {
-        "d" => Some(Call::Doc),
-        "s" => Some(Call::Score),
-        "a" => Some(Call::Advance),
-        "f" => Some(Call::Block([BLANK; 64])),
-        _ => None,
     }
 }
 
 pub fn read_script(heap: Global, text: &str) -> anyhow::Result<Script> {
     let mut calls = Vec::new(heap);
-    let mut last = Last::Keep;
-    let mut alive = Vec::new(heap);
-    let mut next = Next::Call;
-    for word in text.split_whitespace() {
-        match next {
-            Next::Target => {
-                calls.push(Call::Seek(word.parse::<u32>()?))?;
-                next = Next::Call;
-            }
-            Next::ProbeTarget => {
-                calls.push(Call::Probe(word.parse::<u32>()?))?;
-                next = Next::Call;
-            }
-            Next::Word => alive.push(read_word(word)?)?,
-            Next::Nothing => return Err(anyhow!("a call after a count")),
-            Next::Call => match word {
-                "k" => next = Next::Target,
-                "p" => next = Next::ProbeTarget,
-                "n" => {
-                    last = Last::CountIncludingDeleted;
-                    next = Next::Nothing;
+    let mut words = text.split_whitespace();
+    while let Some(word) = words.next() {
+        let call = match word {
+            "d" => Call::Doc,
+            "s" => Call::Score,
+            "a" => Call::Advance,
+            "f" => Call::Block([BLANK; 64]),
+            "k" => Call::Seek(read_target(words.next())?),
+            "p" => Call::Probe(read_target(words.next())?),
+            "n" => {
+                if words.next().is_some() {
+                    return Err(anyhow!("a call after a count"));
                 }
-                "c" => {
-                    last = Last::Count;
-                    next = Next::Word;
-                }
-                _ => calls.push(short_call(word).context("a call that is not known")?)?,
-            },
-        }
+                return Ok(Script {
+                    calls,
+                    last: Last::CountIncludingDeleted,
+                    alive: Vec::new(heap),
+                });
+            }
+            "c" => {
+                let alive = words.map(read_word).try_collect(heap)?;
+                return Ok(Script {
+                    calls,
+                    last: Last::Count,
+                    alive,
+                });
+            }
+            _ => return Err(anyhow!("a call that is not known")),
+        };
+        calls.push(call)?;
     }
-    match next {
-        Next::Target | Next::ProbeTarget => Err(anyhow!("a call without its target")),
-        _ => Ok(Script { calls, last, alive }),
-    }
+    Ok(Script {
+        calls,
+        last: Last::Keep,
+        alive: Vec::new(heap),
+    })
 }

@@ -35,7 +35,7 @@ module _ (m n i j : Meaning) (cs : List Call) (z : End) where
   agreed_same xs r q =
       record {
         same = λ _. (xs, r, q);
-        differ = λ e. absurd (let f : ◌≡◌ {A = ℕ} 0 1 = cc in omega arith);
+        differ = λ e. cc;
         plain = λ s t h.
             let a = (plainly_on false m i cs z xs s r h).said in (
               (λ _. sym a ∙ (plainly false n j cs z xs t q (subst (λ (v : List Answer). Legal cs z v) (sym a) h)).said),
@@ -65,10 +65,10 @@ pub agreed_not :
     Runs m ds y xs i → Runs n ds y ys j → (xs ≡ ys → ⊥) → Agreed m n i j cs z false
 agreed_not m n i j cs z ds y xs ys b r q ne =
     record {
-      same = λ e. absurd (let f : ◌≡◌ {A = ℕ} 0 1 = cc in omega arith);
+      same = λ e. cc;
       differ = λ _. (ds, y, xs, ys, b, r, q, ne);
       plain = λ s t h. (
-        (λ e. absurd (let f : ◌≡◌ {A = ℕ} 0 1 = cc in omega arith)),
+        (λ e. cc),
         (λ e. absurd (ne (begun m n i j ds cs y z b xs ys r q s t h e))),
       );
     }

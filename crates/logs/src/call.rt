@@ -14,7 +14,7 @@ pub enum Call {
     Block([u32; 64]),
 }
 
-// How a log ends: the set is kept, or a count takes it.
+// How a log ends: the set is kept, or a count takes it. It holds no alive set, so that a log that is kept borrows nothing.
 #[derive(Clone, Copy)]
 pub enum Last {
     Keep,

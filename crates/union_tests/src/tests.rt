@@ -30,8 +30,8 @@ fn sum<S: Scorer, T: Scorer>(
 fn first_six<S: DocSet>(mut set: S) -> [u32; 6] {
     let mut ids = [0u32; 6];
     let mut doc = set.doc();
-    for place in 0..6 {
-        ids[place] = doc;
+    for id in ids.iter_mut() {
+        *id = doc;
         doc = set.advance();
     }
     ids
@@ -40,8 +40,8 @@ fn first_six<S: DocSet>(mut set: S) -> [u32; 6] {
 // The first three scores.
 fn first_scores<S: Scorer>(mut set: S) -> [f32; 3] {
     let mut scores = [0.0f32; 3];
-    for place in 0..3 {
-        scores[place] = set.score();
+    for score in scores.iter_mut() {
+        *score = set.score();
         set.advance();
     }
     scores

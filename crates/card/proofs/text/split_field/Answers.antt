@@ -1,44 +1,31 @@
-use Rattle.std.proofs.Common.{◌<◌, length, Some, None, sym, ap, ◌∙◌, arith}
-use Rattle.std.proofs.lemmas.Option.{MatchOption-at_some}
-use Rattle.std.specs.Option.{option_map}
-use Rattle.std.proofs.lemmas.Bool.{eqb-true, eqb-false}
-use Rattle.card.proofs.Texts.{field_first, field_skip, before_short}
+use Rattle.std.proofs.Common.{◌<◌, ◌-◌, eqb, not, drop, length, subst, sym, refl, ap, ◌∙◌, rules, arith}
+use Rattle.std.proofs.lemmas.List.{take_all, length-drop}
+use Rattle.std.proofs.lemmas.Iterator.{YieldsList-from_slice}
+use Rattle.std.proofs.lemmas.Iterator.Search.{position_from_yields_List}
+use borrow.Author.Tests.{tests}
+use Rattle.card.specs.Text.{before, fields, First}
+use Rattle.card.proofs.Texts.{Started, found_start, field_here}
 use Rattle.card.proofs.text.split_field.Goals as goal
 
-pub returns-then-not-is_empty : goal.returns-then-not-is_empty
-returns-then-not-is_empty c =
-    let some : 0 < length c.split_once.result.0.now = omega (arith, eqb-false _ 0 (sym c.if-not-is_empty.ensures)) in
-    let less : length c.in-Some.rest.now < length c.loop-rest.left.now = MatchOption-at_some (Unit {0}) (λ x. length x.now < length c.loop-rest.left.now) c.in-Some.rest c.in-Some.is c.split_once.ensures.shorter in (
-      c.loop-rest.invariant.0 ∙
-          field_first c.loop-rest.left.now c.split_once.result.0.now (Some c.in-Some.rest.now) c.split_once.ensures.front
-          (sym (ap (option_map (λ x. x.now)) c.in-Some.is) ∙ c.split_once.ensures.back)
-          some,
-      omega (arith, c.loop-rest.invariant.1, less),
-    )
+pub returns-in_err-start : goal.returns-in_err-start
+returns-in_err-start c =
+    let found = position_from_yields_List (λ x. not (eqb x 32)) _ _ c.position.result c.position.ensures.ran (YieldsList-from_slice _ c.iter.ensures.rest) (λ x b q k. search (rules, tests)) in
+    let none = subst (Started c.args.bytes.now) c.in_err-start.was (found_start c.args.bytes.now c.position.result found) in
+    subst (First fields c.args.bytes.now) (sym c.from_residual.ensures) none
 
-pub loop-rest-preserved : goal.loop-rest-preserved
-loop-rest-preserved c =
-    let less : length c.in-Some.rest.now < length c.loop-rest.left.now = MatchOption-at_some (Unit {0}) (λ x. length x.now < length c.loop-rest.left.now) c.in-Some.rest c.in-Some.is c.split_once.ensures.shorter in (
-      c.loop-rest.invariant.0 ∙
-          field_skip c.loop-rest.left.now c.split_once.result.0.now (Some c.in-Some.rest.now) c.split_once.ensures.front
-          (sym (ap (option_map (λ x. x.now)) c.in-Some.is) ∙ c.split_once.ensures.back)
-          (eqb-true _ 0 (sym c.if-not-is_empty.ensures)),
-      omega (arith, c.loop-rest.invariant.1, less),
-    )
-
-pub returns-then-is_empty : goal.returns-then-is_empty
-returns-then-is_empty c =
-    c.loop-rest.invariant.0 ∙
-    field_skip c.loop-rest.left.now c.split_once.result.0.now None c.split_once.ensures.front
-    (sym (ap (option_map (λ x. x.now)) c.in-None.is) ∙ c.split_once.ensures.back)
-    (eqb-true _ 0 (sym c.if-is_empty.ensures))
-
-pub returns-in-None : goal.returns-in-None
-returns-in-None c =
-    let some : 0 < length c.split_once.result.0.now = omega (arith, eqb-false _ 0 (sym c.if-is_empty.ensures)) in (
-      c.loop-rest.invariant.0 ∙
-          field_first c.loop-rest.left.now c.split_once.result.0.now None c.split_once.ensures.front
-          (sym (ap (option_map (λ x. x.now)) c.in-None.is) ∙ c.split_once.ensures.back)
-          some,
-      omega (arith, c.loop-rest.invariant.1, before_short 32 c.loop-rest.left.now, ap length c.split_once.ensures.front),
+pub returns : goal.returns
+returns c =
+    let found = position_from_yields_List (λ x. not (eqb x 32)) _ _ c.position.result c.position.ensures.ran (YieldsList-from_slice _ c.iter.ensures.rest) (λ x b q k. search (rules, tests)) in
+    let begun = subst (Started c.args.bytes.now) c.in_ok-start.was (found_start c.args.bytes.now c.position.result found) in
+    let behind = length-drop c.in_ok-start.start c.args.bytes.now in
+    let all = take_all (length c.args.bytes.now - c.in_ok-start.start) (drop c.in_ok-start.start c.args.bytes.now) (omega (arith, behind)) in
+    let here =
+    field_here _ c.split_once.result.0.now c.split_once.result.1 _ c.unwrap_or.result c.split_once.ensures.front
+    c.split_once.ensures.back
+    c.split_once.ensures.shorter
+    (subst (λ l. 0 < length (before 32 l)) (sym all) begun.2)
+    c.unwrap_or.ensures
+    refl in (
+      begun.0 ∙ ap fields (sym all) ∙ here.0,
+      omega (arith, here.1, ap length all, behind),
     )

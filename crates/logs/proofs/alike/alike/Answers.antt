@@ -1,4 +1,4 @@
-use Rattle.std.proofs.Common.{◌≡◌, ℕ, refl, arith}
+use Rattle.std.proofs.Common.{refl}
 use Rattle.logs.proofs.Tracks.{starts, ends, ids_differ, scores_differ, steps, less}
 use Rattle.logs.proofs.alike.alike.Goals as goal
 
@@ -19,7 +19,7 @@ returns-then-doc-other g c = ids_differ _ _ _ _ _ _ c.loop-doc.invariant c.if-do
 pub returns-then-not-same_score : goal.returns-then-not-same_score
 returns-then-not-same_score g c =
     scores_differ _ _ _ _ _ _ c.loop-doc.invariant _ _ _ _ c.score-score.ensures c.score-other_score.ensures
-    (λ h. let f = c.if-not-same_score.ensures.1 h in let z : ◌≡◌ {A = ℕ} 0 1 = cc in omega arith)
+    (λ h. cc (c.if-not-same_score.ensures.1 h))
 
 pub returns : goal.returns
 returns g c = ends _ _ _ _ _ _ c.loop-doc.invariant c.loop-doc-test.false
