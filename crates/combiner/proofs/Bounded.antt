@@ -1,11 +1,10 @@
 -- The estimate of a union is at most the number of documents.
 use Rattle.std.proofs.Common.{◌≡◌, ℕ, ◌-◌, ◌*◌, ◌/◌, ◌^◌, ◌<◌, ◌≤◌, Bool, true, false, cond, T, sym, refl, ap, ◌∙◌, subst, mul_comm, mul-one, mul_right_comm, le_of_mul-le-mul_right, arith, le→leb, ltb-false}
 use native.Mathlib.Nat.{div-le_of_le-mul, min-le_left}
-use lib.Ieee.{Float, nan, inf, fin, binary64, up, down, lt, le, is_nan, of_int, of_bits, in_float, to_unsigned}
+use lib.Ieee.{Float, nan, inf, fin, binary64, up, down, lt, is_nan, of_int, of_bits, in_float, to_unsigned}
 use lib.Ieee.Back.{round_whole, unsigned_back}
 use lib.Ieee.Exact.{HasValue}
 use lib.Ieee.Fits.{down_pos}
-use lib.Ieee.Order.{le_of_values}
 use Rattle.combiner.specs.Estimate.{zero, whole, within}
 
 -- p / q is at most n if it is not above u / v, which is n
@@ -34,14 +33,6 @@ not_above n (fin false a c) is (fin false m d) e =
 whole_is : (n : ℕ) → n < 2 ^ 32 → HasValue (whole n) false n 1
 unfolding of_int
 whole_is n h = round_whole binary64 false n (omega arith)
-
-zero_is : HasValue zero false 0 1
-unfolding of_bits
-zero_is = (refl, refl)
-
--- so that a number can be kept between 0 and n
-pub whole_high : (n : ℕ) → n < 2 ^ 32 → T (le zero (whole n))
-whole_high n h = le_of_values zero (whole n) 0 1 n 1 (omega arith) (omega arith) zero_is (whole_is n h) (omega arith)
 
 whole_back : (n : ℕ) → n < 2 ^ 32 → to_unsigned 32 (whole n) ≡ n
 unfolding in_float

@@ -1,7 +1,7 @@
 -- The estimate of a union's size. Every operation is rounded once in f64.
 use Rattle.std.specs.Prelude.{ℕ, cond, List, pos, fold, ◌==◌, from_bits, is_nan, Float}
-use Rattle.std.specs.Float.Ieee.{of_int, mul, sub, div, to_unsigned}
-use Rattle.std.specs.Float.{float_clamp, float_round, binary64}
+use Rattle.std.specs.Float.Ieee.{of_int, mul, sub, div, lt, to_unsigned}
+use Rattle.std.specs.Float.{float_round, binary64}
 
 -- 0.0
 abbrev pub zero : Float
@@ -29,7 +29,7 @@ product n sizes = fold (times n) one sizes
 
 -- x if it lies between 0 and n, else the nearer end; n where x is not a number
 abbrev pub within : Float → Float → Float
-within n x = cond (is_nan x) n (float_clamp x zero n)
+within n x = cond (is_nan x) n (cond (lt x zero) zero (cond (lt n x) n x))
 
 -- n * (1 - p), rounded to a whole number, halves away from zero, and kept between 0 and n
 abbrev pub estimate : Float → Float → Float

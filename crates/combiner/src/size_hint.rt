@@ -1,6 +1,5 @@
 ghost use Rattle.std.specs.Prelude.{◌≡◌, ◌≤◌};
-ghost use Rattle.std.specs.Float.{◌≤ᶠ◌};
-ghost use Rattle.combiner.specs.Estimate.{zero, times, within, estimate, union_estimate};
+ghost use Rattle.combiner.specs.Estimate.{times, within, estimate, union_estimate};
 
 use std::num::saturating_f64_to_u32;
 
@@ -14,21 +13,24 @@ fn share_left(share: f64, size: u32, max_docs: f64) -> f64
     share * (1.0 - (size as f64 / max_docs) * CO_LOC_FACTOR)
 }
 
-// The nearer end for a number outside 0 to max_docs, and max_docs for one that is not a number.
+// The nearer end for a number outside 0 to max_docs, and max_docs for one that is not a number. The library's `clamp` would ask
+// that max_docs is not below 0, here and of whoever calls this.
 fn clamped(union: f64, max_docs: f64) -> f64
-    requires { zero ≤ᶠ max_docs }
     ensures { result ≡ within max_docs union }
 {
     if union.is_nan() {
         max_docs
+    } else if union < 0.0 {
+        0.0
+    } else if union > max_docs {
+        max_docs
     } else {
-        union.clamp(0.0, max_docs)
+        union
     }
 }
 
 // The number of documents that some set has, given the share that no set has.
 fn estimated(share: f64, max_docs: f64) -> f64
-    requires { zero ≤ᶠ max_docs }
     ensures { result ≡ estimate max_docs share }
 {
     let union = (max_docs * (1.0 - share)).round();

@@ -72,7 +72,7 @@ pub trait DocSet: Drop + Sized {
         ensures { Probed target (meaning self.old) (meaning self.new) result };
 
     // Writes the next documents to the front of the buffer, passes them, and answers how many there were.
-    fn fill_buffer(&mut self, buffer: &mut [u32; 64]) -> usize
+    fn fill_buffer(&mut self, buffer: &mut [u32; COLLECT_BLOCK_BUFFER_LEN]) -> usize
         ensures { Filled (meaning self.old) (meaning self.new) buffer.old buffer.new result }
     {
         let mut doc = self.doc();
@@ -125,4 +125,3 @@ pub trait DocSet: Drop + Sized {
     fn cost(&self) -> u64
         ensures { result ≡ price self.now };
 }
-

@@ -78,7 +78,7 @@ impl DocSet for AllScorer {
         SeekDangerResult::at(doc, target)
     }
 
-    fn fill_buffer(&mut self, buffer: &mut [u32; 64]) -> usize {
+    fn fill_buffer(&mut self, buffer: &mut [u32; COLLECT_BLOCK_BUFFER_LEN]) -> usize {
         let first = self.doc;
         let len = (self.max_doc - first).min(COLLECT_BLOCK_BUFFER_LEN as u32);
         write_run(&mut buffer[..len as usize], first);

@@ -6,15 +6,15 @@ use Rattle.std.specs.Array.{IsFromFnResult, IsFromFnResultFrom}
 use lib.ListN.{length-replicate, get_or-replicate}
 use Rattle.std.proofs.lemmas.List.{get_or_past, set-get_or}
 use Rattle.std.proofs.Math.Seq.{drop-nil}
-use Rattle.docset.specs.Meaning.{is_steady, Meaning, Pair, Steady, steady, lost, Known, Rising, TERM, calm, rest, from, first_id, first_score, zero_score}
+use Rattle.docset.specs.Meaning.{Meaning, Pair, Steady, steady, lost, Known, Rising, TERM, calm, rest, from, first_id, first_score, zero_score}
 use Rattle.docset.specs.Calls.{Told, Moved, Sought, Scored}
 use Rattle.bank.specs.Places.{Rows, at, Elsewhere}
-use Rattle.live.specs.Sets.{empty, lowest_of, AllSteady, all_steady, AllRising, passed, part}
+use Rattle.live.specs.Sets.{empty, lowest_of, AllSteady, AllRising, passed, part}
 use Rattle.live.specs.Kept.{kept, awake, none_left, due, due_of, live_at}
 use Rattle.live.specs.Views.{left, awaited, Advances, Scores, Sent}
 use Rattle.live.specs.declared.live.Live.{Live}
-use Rattle.docset.proofs.Lists.{ended, rising_rest, rising_from, steady_known, steady_is, is_then_steady, settled}
-use Rattle.std.proofs.lemmas.Bool.{and_parts, and_from, cases_lt, eqb-true, eqb-false}
+use Rattle.docset.proofs.Lists.{ended, rising_rest, rising_from, steady_known, settled}
+use Rattle.std.proofs.lemmas.Bool.{cases_lt, eqb-true, eqb-false}
 
 pub set_at : (ms : List Meaning) (i : ℕ) → ms ≡ set ms i (at ms i)
 set_at ms i = sym (set-get_or ms i empty)

@@ -1,4 +1,5 @@
 // Answers as text: an id as it is, a score by its bits, a buffer with its runs of one value as value*times.
+use docset::docset::COLLECT_BLOCK_BUFFER_LEN;
 use docset::refusal::Refusal;
 use logs::call::Answer;
 use std::fmt;
@@ -19,7 +20,7 @@ impl fmt::Display for Refused {
 }
 
 #[derive(Drop)]
-struct Runs<'a>(&'a [u32; 64]);
+struct Runs<'a>(&'a [u32; COLLECT_BLOCK_BUFFER_LEN]);
 
 impl<'a> fmt::Display for Runs<'a> {
     fn fmt<W: fmt::Write>(&self, f: &mut fmt::Formatter<W>) -> fmt::Result {

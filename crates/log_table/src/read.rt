@@ -1,5 +1,6 @@
 // The text of one log.
 use anyhow::{Context, anyhow};
+use docset::docset::COLLECT_BLOCK_BUFFER_LEN;
 use logs::call::{Call, Last};
 use std::alloc::Global;
 
@@ -60,7 +61,7 @@ pub fn read_script(heap: Global, text: &str) -> anyhow::Result<Script> {
             "d" => Call::Doc,
             "s" => Call::Score,
             "a" => Call::Advance,
-            "f" => Call::Block([BLANK; 64]),
+            "f" => Call::Block([BLANK; COLLECT_BLOCK_BUFFER_LEN]),
             "k" => Call::Seek(read_target(words.next())?),
             "p" => Call::Probe(read_target(words.next())?),
             "n" => {

@@ -1,3 +1,5 @@
+use docset::docset::COLLECT_BLOCK_BUFFER_LEN;
+
 // A call on a set, with all that it is given. A count is no such call: it takes the set, so that it stands last in a log.
 #[derive(Clone, Copy)]
 pub enum Call {
@@ -11,7 +13,7 @@ pub enum Call {
     // A probe: whether this target is listed.
     Probe(u32),
     // The next ids, written over this buffer.
-    Block([u32; 64]),
+    Block([u32; COLLECT_BLOCK_BUFFER_LEN]),
 }
 
 // How a log ends: the set is kept, or a count takes it. It holds no alive set, so that a log that is kept borrows nothing.
@@ -33,7 +35,7 @@ pub enum Answer {
     // Of a probe that does not. Its bound is not logged, since sets may differ in it.
     Miss,
     // How many ids a block wrote, and the buffer that it left.
-    Written(usize, [u32; 64]),
+    Written(usize, [u32; COLLECT_BLOCK_BUFFER_LEN]),
     // Of a count.
     Number(u32),
 }

@@ -1,14 +1,15 @@
 -- What a union lists that stands somewhere in its window.
 use Rattle.std.proofs.Common.{◌≡◌, ℕ, suc, ◌+◌, ◌-◌, ◌<◌, ◌≤◌, true, leb, ◌⊎◌, List, [], ◌∷◌, sym, refl, ap, ◌∙◌, inl, inr, arith, le-ltb, lt-ltb, le-leb, leb-true}
-use Rattle.docset.proofs.Lists.{from_least, steady_is, is_then_steady}
+use Rattle.docset.proofs.Lists.{from_least}
 use lib.Ieee.{Float}
 use Rattle.combiner.specs.declared.score_combiner.Tally.{Tally}
 use Rattle.combiner.specs.Cells.{Cell, none, some, puts, listed}
 use Rattle.window.specs.Windows.{Next}
 use Rattle.std.proofs.lemmas.Bool.{cases_lt, and_parts, and_from}
-use Rattle.docset.specs.Meaning.{Meaning, TERM, is_steady}
+use Rattle.docset.specs.Meaning.{Meaning, TERM}
 use Rattle.live.specs.Sets.{passed, lowest_of, AllSteady, AllRising, all_steady}
 use Rattle.live.proofs.Keeps.{lowest_le}
+use Rattle.live.proofs.Passed.{test_steady, steady_test}
 use Rattle.live.specs.Lists.{scores_at, united, union_list}
 use Rattle.combiner.proofs.Cells.{listed_same, listed_skip, listed_head}
 use Rattle.refill.specs.Refills.{AllSound, Refilled, reach}
@@ -92,23 +93,14 @@ pub settled_passed : (h : ℕ) (ms : List Meaning) → h ≤ TERM → settled h 
 unfolding settled
 settled_passed h ms le = and_from _ _ (steady_passed h ms) (le-leb h (lowest_of (passed h ms)) (lowest_passed h ms le))
 
-all_steady_is : (ms : List Meaning) → all_steady ms ≡ true → AllSteady ms
-all_steady_is [] e = tt
-all_steady_is (m ∷ ms) e =
-    let p = and_parts (is_steady m.mark) (all_steady ms) e in (is_then_steady m.mark p.0, all_steady_is ms p.1)
-
-steady_is_all : (ms : List Meaning) → AllSteady ms → all_steady ms ≡ true
-steady_is_all [] s = refl
-steady_is_all (m ∷ ms) s = and_from _ _ (steady_is m.mark s.0) (steady_is_all ms s.1)
-
 pub settled_is : (h : ℕ) (ms : List Meaning) → settled h ms ≡ true → AllSteady ms × (h ≤ lowest_of ms)
 unfolding settled
 settled_is h ms e =
-    let p = and_parts (all_steady ms) (leb h (lowest_of ms)) e in (all_steady_is ms p.0, leb-true h (lowest_of ms) p.1)
+    let p = and_parts (all_steady ms) (leb h (lowest_of ms)) e in (test_steady ms p.0, leb-true h (lowest_of ms) p.1)
 
 pub settled_by : (h : ℕ) (ms : List Meaning) → AllSteady ms → h ≤ lowest_of ms → settled h ms ≡ true
 unfolding settled
-settled_by h ms z le = and_from _ _ (steady_is_all ms z) (le-leb h (lowest_of ms) le)
+settled_by h ms z le = and_from _ _ (steady_test ms z) (le-leb h (lowest_of ms) le)
 
 pub bound_on : (s doc : ℕ) → doc < TERM → bound s doc ≡ reach s
 bound_on s doc lt = let t = lt-ltb doc TERM lt in rw t

@@ -3,7 +3,7 @@ ghost use Rattle.combiner.specs.Scores.{refusal_of};
 ghost use Rattle.scored.specs.Boosts.{factor_of, boost_means, unless};
 
 use docset::alive_bitset::AliveBitSet;
-use docset::docset::{DocSet, SeekDangerResult, TERMINATED};
+use docset::docset::{COLLECT_BLOCK_BUFFER_LEN, DocSet, SeekDangerResult, TERMINATED};
 use docset::refusal::Refusal;
 use docset::scorer::Scorer;
 
@@ -78,7 +78,7 @@ impl<S: Scorer> DocSet for BoostScorer<S> {
         }
     }
 
-    fn fill_buffer(&mut self, buffer: &mut [u32; 64]) -> usize {
+    fn fill_buffer(&mut self, buffer: &mut [u32; COLLECT_BLOCK_BUFFER_LEN]) -> usize {
         match self.boost {
             Some(_) => self.underlying.fill_buffer(buffer),
             None => 0,

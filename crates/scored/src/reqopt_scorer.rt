@@ -7,7 +7,7 @@ ghost use Rattle.scored.specs.Optional.{both, opted, LookedUp};
 
 use combiner::score_combiner::{ScoreCombiner, combine_two};
 use docset::alive_bitset::AliveBitSet;
-use docset::docset::{DocSet, SeekDangerResult, TERMINATED};
+use docset::docset::{COLLECT_BLOCK_BUFFER_LEN, DocSet, SeekDangerResult, TERMINATED};
 use docset::scorer::Scorer;
 use std::marker::PhantomData;
 
@@ -92,7 +92,7 @@ impl<R: Scorer, O: Scorer, C: ScoreCombiner> DocSet for RequiredOptionalScorer<R
         answer
     }
 
-    fn fill_buffer(&mut self, buffer: &mut [u32; 64]) -> usize
+    fn fill_buffer(&mut self, buffer: &mut [u32; COLLECT_BLOCK_BUFFER_LEN]) -> usize
         ensures moves { Filled (⟦<Self as DocSet>⟧.meaning self.old) (⟦<Self as DocSet>⟧.meaning self.new) buffer.old buffer.new result }
         ensures unasked { self.new.optional ≡ self.old.optional }
     {

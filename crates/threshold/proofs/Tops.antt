@@ -7,9 +7,7 @@ use Rattle.docset.specs.Meaning.{Meaning, Pair, TERM, Rising, first_id}
 use Rattle.docset.proofs.Lists.{settled}
 use Rattle.bank.specs.Places.{at}
 use Rattle.heap.specs.declared.order.Entry.{Entry}
-use Rattle.std.specs.Ordering.{is_le, nat_cmp, ordering_then}
-use Rattle.std.specs.declared.cmp.Ordering.TheVariants.{Less, Equal, Greater}
-use Rattle.std.proofs.lemmas.Map.Keys.{le_from_is_le}
+use Rattle.std.proofs.lemmas.Bool.Decides.{nat_tests}
 use Rattle.heap.specs.Ranks.{lex}
 use Rattle.live.specs.Sets.{empty, lowest_of}
 use Rattle.live.specs.Kept.{none_left}
@@ -93,12 +91,7 @@ top_least P E e t r =
         }
 
 lex_below : (a i b j : ℕ) → lex a i b j ≡ true → (a < b) ⊎ ((a ≡ b) × (i ≤ j))
-lex_below a i b j h = go (ltb a b) (eqb a b) refl refl h
-  where
-    go : (c d : Bool) → ltb a b ≡ c → eqb a b ≡ d → is_le (ordering_then (cond c Less (cond d Equal Greater)) (nat_cmp i j)) ≡ true → (a < b) ⊎ ((a ≡ b) × (i ≤ j))
-    go true d e f x = inl (ltb-true a b e)
-    go false true e f x = inr (eqb-true a b f, le_from_is_le i j x)
-    go false false e f x = absurd (both_ways false refl x)
+lex_below a i b j h = grind (arith, nat_tests)
 
 none_first : (ps : List Pair) → none_left ps ≡ true → first_id ps ≡ TERM
 none_first [] e = refl

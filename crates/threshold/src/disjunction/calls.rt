@@ -15,7 +15,7 @@ use docset::refusal::Refusal;
 use docset::scorer::Scorer;
 
 // How many sets a threshold takes at most.
-const MOST: usize = 32;
+const MOST: usize = live::live::MOST;
 
 impl<B: Bank, C: ScoreCombiner> Disjunction<B, C> {
     // An empty set, whose sets are never asked.

@@ -23,7 +23,7 @@ use refill::refill::{horizon, refill};
 use window::window::{HORIZON_NUM_TINYBITSETS, Window};
 
 // How many sets a union takes at most.
-const MOST: usize = 32;
+const MOST: usize = live::live::MOST;
 
 impl<B: Bank, C: ScoreCombiner> BufferedUnionScorer<B, C> {
     // Opens a window at the lowest id of the sets, and takes its first document. What the old window still held is dropped.
@@ -177,7 +177,7 @@ impl<B: Bank, C: ScoreCombiner> DocSet for BufferedUnionScorer<B, C> {
     }
 
     // Writes ids straight from the window's words. A turn is a window and not a place of the buffer, so this is no loop over the buffer.
-    fn fill_buffer(&mut self, buffer: &mut [u32; 64]) -> usize
+    fn fill_buffer(&mut self, buffer: &mut [u32; COLLECT_BLOCK_BUFFER_LEN]) -> usize
         ensures moves { Filled (⟦<Self as DocSet>⟧.meaning self.old) (⟦<Self as DocSet>⟧.meaning self.new) buffer.old buffer.new result }
         ensures reads { reads_through B.Bank.rows result (⟦<Self as DocSet>⟧.meaning self.old).pairs self.old self.new }
         ensures docs { self.new.num_docs ≡ self.old.num_docs }

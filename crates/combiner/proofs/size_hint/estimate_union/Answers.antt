@@ -1,9 +1,6 @@
 use Rattle.std.proofs.Common.{arith}
-use Rattle.combiner.proofs.Bounded.{within_le, whole_high}
+use Rattle.combiner.proofs.Bounded.{within_le}
 use Rattle.combiner.proofs.size_hint.estimate_union.Goals as goal
-
-pub estimated-requires : goal.estimated-requires
-estimated-requires c = whole_high c.args.max_docs (omega arith)
 
 pub returns-clause-bound : goal.returns-clause-bound
 returns-clause-bound c =

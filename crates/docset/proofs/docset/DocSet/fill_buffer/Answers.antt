@@ -11,9 +11,10 @@ returns-then-doc-eq-TERMINATED-2 g c =
 
 pub loop-place-preserved : goal.loop-place-preserved
 loop-place-preserved g c =
-    rw add-one
-    (fill_steps _ _ _ _ _ _ c.told-buffer c.loop-place.invariant.0 c.loop-place-test.true c.loop-place.invariant.1 _ _ c.advance-doc.ensures,
-    c.if-doc-eq-TERMINATED-2.false)
+    rw add-one (
+      fill_steps _ _ _ _ _ _ c.told-buffer c.loop-place.invariant.0 c.loop-place-test.true c.loop-place.invariant.1 _ _ c.advance-doc.ensures,
+      c.if-doc-eq-TERMINATED-2.false,
+    )
 
 pub returns : goal.returns
 returns g c = fill_full _ _ _ _ _ _ c.loop-place.invariant.0 (omega (arith, c.loop-place.auto.place-end, c.loop-place-test.false))

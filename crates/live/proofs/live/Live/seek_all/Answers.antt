@@ -1,4 +1,4 @@
-use Rattle.std.proofs.Common.{refl, ◌∙◌, arith}
+use Rattle.std.proofs.Common.{◌∙◌, arith}
 use Rattle.live.specs.Kept.{kept}
 use Rattle.live.proofs.Keeps.{sending_more, part_all, rising_all, length_kept}
 use Rattle.live.proofs.live.Live.seek_all.Goals as goal
