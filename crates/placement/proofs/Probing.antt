@@ -54,6 +54,13 @@ step m n o xs x ys count r h p =
       same = λ u l. ap (has u) a.leaves ∙ has_probed x u n.pairs (omega arith) ∙ h.same u (omega (arith, h.rises.0));
     }
 
+pub one_found : (r : SeekDangerResult) → r ≡ Found → ◌≡◌ {A = ℕ} 1 (cond (found r) 1 0)
+one_found r e = ap {B = ℕ} (λ x. cond (found x) 1 0) (sym e)
+
+pub none_found : (r : SeekDangerResult) → (r ≡ Found → ⊥) → ◌≡◌ {A = ℕ} 0 (cond (found r) 1 0)
+none_found Found e = absurd (e refl)
+none_found (SeekLowerBound b) e = refl
+
 -- the same at a place of the ids
 pub probe_at :
     (m n o : Meaning) (xs : List ℕ) (i count more : ℕ) (r : SeekDangerResult) → i < length xs → Sofar m n xs (drop i xs) count →

@@ -10,11 +10,8 @@ abbrev pub leaf_read : ℕ → Option Refusal → List ℕ → Result (List ℕ)
 leaf_read n None ids = Ok ids
 leaf_read n (Some why) ids = Err (Ids n why)
 
-abbrev pub first_of : List ℕ → Option ℕ
-first_of ids = cond (nat_lt 0 (length ids)) (Some (slice_index ids 0)) None
-
-abbrev pub last_of : List ℕ → Option ℕ
-last_of ids = cond (nat_lt 0 (length ids)) (Some (slice_index ids (length ids - 1))) None
+abbrev pub last_id : List ℕ → Option ℕ
+last_id ids = cond (nat_lt 0 (length ids)) (Some (slice_index ids (length ids - 1))) None
 
 -- how many of these ids are listed
 abbrev pub listed_count : List ℕ → List Pair → ℕ

@@ -66,7 +66,7 @@ fn exercises_of(topic: &Topic) -> Weighted<'_> {
 }
 
 // One line of the slip.
-fn show_hit(rt: &HostRuntime, rank: usize, hit: Hit) -> io::Result<()> {
+fn show_hit(rt: &HostRuntime, rank: usize, hit: &Hit) -> io::Result<()> {
     let id = hit.id;
     let score = f32_from_bits_with_nan(hit.bits);
     println!(rt; "{rank:>4}{id:>12}{score:>10.2}")
@@ -78,17 +78,13 @@ fn show_topic(rt: &HostRuntime, topic: &Topic, bonus: Weighted, card: &Card) -> 
         rt.alloc(),
         exercises_of(topic),
         bonus,
-        card.seen.as_slice(),
+        card.seen(),
         &mut places,
     )?;
     let name = topic.name.as_str();
     println!(rt; "{name}: rank, exercise, score")?;
-    let mut rank: usize = 0;
-    for hit in places {
-        if rank >= picked || rank >= card.pick {
-            return Ok(());
-        }
-        rank += 1;
+    let shown = picked.min(card.pick());
+    for (rank, hit) in (1..=shown).zip(places.iter()) {
         show_hit(rt, rank, hit)?;
     }
     Ok(())
@@ -96,13 +92,11 @@ fn show_topic(rt: &HostRuntime, topic: &Topic, bonus: Weighted, card: &Card) -> 
 
 // Prints the slip of a card whose lists of ids are good.
 pub fn show_slip(rt: &HostRuntime, card: &Card) -> anyhow::Result<()> {
-    let bonus = match &card.bonus {
-        Some(bonus) => exercises_of(bonus),
-        None => Weighted {
-            ids: &[],
-            weight: 1.0,
-        },
+    let none = Weighted {
+        ids: &[],
+        weight: 1.0,
     };
+    let bonus = card.bonus.as_ref().map_or(none, exercises_of);
     for topic in card.topics.iter() {
         show_topic(rt, topic, bonus, card)?;
     }

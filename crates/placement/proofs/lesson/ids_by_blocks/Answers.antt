@@ -11,8 +11,8 @@ loop-turn-init g c = (
       (starts (g.S.DocSet.meaning c.args.set) c.doc-doc.result c.doc-doc.ensures s),
 )
 
-pub returns-then-filled-lt64 : goal.returns-then-filled-lt64
-returns-then-filled-lt64 g c s =
+pub returns-then-filled-lt-COLLECT_BLOCK_BUFFER_LEN : goal.returns-then-filled-lt-COLLECT_BLOCK_BUFFER_LEN
+returns-then-filled-lt-COLLECT_BLOCK_BUFFER_LEN g c s =
     c.in_ok-extend_from_slice.ensures.items ∙
     ap (λ k. vec_items c.loop-turn.ids ++ take k c.fill_buffer-filled.new.buffer) (sub-zero c.fill_buffer-filled.result) ∙
     ends_short (g.S.DocSet.meaning c.args.set) (g.S.DocSet.meaning c.loop-turn.set) (g.S.DocSet.meaning c.fill_buffer-filled.new.self)
