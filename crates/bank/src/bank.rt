@@ -105,7 +105,7 @@ impl Bank for NoSets {
 }
 
 // A set of any type at place 0, and behind it the sets of another bank. Each call at a place calls another method of the
-// set, which no common function can be handed: a count takes its set, so there is no `dyn DocSet`.
+// set, which no common function can be handed: a count takes its set, so there is no `dyn DocSet`. So each has the same test.
 #[derive(Drop)]
 pub struct Sets<S, B> {
     first: S,

@@ -59,8 +59,6 @@ pub fn split_line<'a>(bytes: &'a [u8]) -> Option<(&'a [u8], &'a [u8])>
     Some((line, rest.unwrap_or(&[])))
 }
 
-// The numbers of a line, or none if one of its fields is no number. Only memory fails, so that is no error here: the
-// caller knows which fault it is.
 fn numbers_of(heap: Global, bytes: &[u8]) -> Result<Option<Vec<u32>>, AllocError>
     ensures { IfOk result (λ o. option_map vec_items o ≡ ids_of bytes.now) }
 {
@@ -76,7 +74,8 @@ fn numbers_of(heap: Global, bytes: &[u8]) -> Result<Option<Vec<u32>>, AllocError
     Ok(Some(ids))
 }
 
-// The same; what is written is read back.
+// The numbers of a line, or none if one of its fields is no number. What is written is read back. None is an answer and no
+// error: only memory fails here, and the caller knows which fault it tells.
 pub fn read_ids(heap: Global, bytes: &[u8]) -> Result<Option<Vec<u32>>, AllocError>
     ensures value { IfOk result (λ o. option_map vec_items o ≡ ids_of bytes.now) }
     ensures back { (ns : List ℕ) → Fit ns → bytes.now ≡ written ns → IfOk result (λ o. option_map vec_items o ≡ Some ns) }
@@ -121,7 +120,7 @@ fn is_name_byte(byte: u8) -> bool
     byte.is_ascii_alphanumeric() || byte == b'-' || byte == b'_'
 }
 
-// A name of letters, digits, `-` and `_`, or none if the text is no name.
+// A name of letters, digits, `-` and `_`, or none likewise.
 pub fn read_name(heap: Global, bytes: &[u8]) -> Result<Option<String>, AllocError>
     ensures { IfOk result (λ o. option_map string_bytes o ≡ name bytes.now) }
 {

@@ -171,3 +171,8 @@ probed_id t ps h = cond-true (ltb t TERM) (from t ps) ps (lt-ltb t TERM h)
 
 pub probed_none : (t : ℕ) (ps : List Pair) → TERM ≤ t → probed t ps ≡ ps
 probed_none t ps h = cond-false (ltb t TERM) (from t ps) ps (le-ltb t TERM h)
+
+-- a rising list rises from its first id on
+pub rising_here : (ps : List Pair) → Rising 0 ps → Rising (first_id ps) ps
+rising_here [] r = tt
+rising_here (p ∷ ps) r = (omega arith, r.1, r.2)

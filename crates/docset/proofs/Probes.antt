@@ -105,16 +105,3 @@ probe_lifted t m n r s h = record { an_id = h.an_id; shrinks = h.shrinks; answer
 pub lifted_past :
     (t : ℕ) (m : Meaning) (d : ℕ) → (Known m.mark → Steady m) → Told m d → TERM ≤ t → Probed t m m (SeekLowerBound TERM)
 lifted_past t m d s u h = probe_lifted t m m (SeekLowerBound TERM) s (probe_past t m h u.rises)
-
-pub lifted_found :
-    (t : ℕ) (m n : Meaning) (d : ℕ) → (Known m.mark → Steady m) → t < TERM → Sought t m n d → d ≡ t → Probed t m n Found
-lifted_found t m n d s h v e = probe_lifted t m n Found s (probe_found t m n d h v e)
-
-pub lifted_missed :
-    (t : ℕ) (m n : Meaning) (c d : ℕ) → (Known m.mark → Steady m) → Told m c → t < TERM → Sought t m n d → (d ≡ t → ⊥) →
-    Probed t m n (SeekLowerBound d)
-lifted_missed t m n c d s u h v e = probe_lifted t m n (SeekLowerBound d) s (probe_missed t m n d h u.rises v e)
-
--- what was sought stays steady
-pub sought_stays : (t : ℕ) (m n : Meaning) (d : ℕ) → Sought t m n d → Steady m → Steady n
-sought_stays t m n d h s = ap (λ (x : Meaning). x.mark) (h.becomes s)

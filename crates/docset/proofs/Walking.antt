@@ -102,22 +102,6 @@ weighed_rest :
 weighed_rest w [] h = absurd (h refl)
 weighed_rest w (p ∷ ps) h = refl
 
-pub count_steps :
-    (w : ℕ → ℕ) (m n : Meaning) (d k : ℕ) → Counting w m n d k → (d ≡ TERM → ⊥) → w d ≤ 1 →
-    (o : Meaning) (e j : ℕ) → j ≡ min (k + w d) 4294967295 → Moved n o e → Counting w m o e j
-count_steps w m n d k i ne le o e j jk h =
-    let a = i.along in
-    record {
-      along = along_steps m n o d e a h;
-      few = λ s. omega (arith, falls n o d e a.an_id ne h, i.few s);
-      small = i.small;
-      total = λ s.
-          let x : weighed w o.pairs ≡ weighed w (rest n.pairs) = ap (λ (z : Meaning). weighed w z.pairs) (h.becomes (a.still s)) in
-          let y : w (first_id n.pairs) + weighed w (rest n.pairs) ≡ weighed w n.pairs = weighed_rest w n.pairs (λ z. ne (a.tells s ∙ z)) in
-          let z : w d ≡ w (first_id n.pairs) = ap w (a.tells s) in
-          omega (arith, i.total s, i.few s, i.small s, le);
-    }
-
 pub count_ends :
     (w : ℕ → ℕ) (m n : Meaning) (d k : ℕ) → Counting w m n d k → d ≡ TERM → Steady m → k ≡ weighed w m.pairs
 count_ends w m n d k i e s =

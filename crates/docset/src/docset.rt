@@ -104,7 +104,8 @@ pub trait DocSet: Drop + Sized {
         alive
     }
 
-    // How many documents are still listed.
+    // How many documents are still listed. The loop is that of `count` without its test: a body here can hand its set to no
+    // common function.
     fn count_including_deleted(mut self) -> u32
         ensures { Counted (meaning self) result }
     {

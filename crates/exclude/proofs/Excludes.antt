@@ -6,16 +6,11 @@ use Rattle.docset.specs.Meaning.{Meaning, Mark, is_steady, lost, Pair, TERM, Ste
 use Rattle.docset.specs.Calls.{Told, Moved, Sought, Probed, ProbedSteady, Scored}
 use Rattle.docset.specs.declared.docset.SeekDangerResult.{SeekDangerResult}
 use Rattle.docset.specs.declared.docset.SeekDangerResult.TheVariants.{Found, SeekLowerBound}
-use Rattle.docset.proofs.Lists.{steady_known, steady_is, is_then_steady, lower, rising_is, is_then_rising, rising_rest, rising_from, from_lt, from_ge, from_shorter}
+use Rattle.docset.proofs.Lists.{steady_known, steady_is, is_then_steady, lower, rising_is, is_then_rising, rising_rest, rising_from, from_lt, from_ge, from_shorter, rising_here}
 use Rattle.docset.proofs.Probes.{probe_past, probe_sought}
 use Rattle.bank.specs.Holding.{held, AllKnown}
 use Rattle.bank.proofs.Probing.{held_later, known_later}
 use Rattle.exclude.specs.Excluding.{Asked, without, clear, fit, excluded, Ready, Passed, Skipped}
-
--- a rising list rises from its first id on
-rising_here : (ps : List Pair) → Rising 0 ps → Rising (first_id ps) ps
-rising_here [] r = tt
-rising_here (p ∷ ps) r = (omega arith, r.1, r.2)
 
 -- ---- what is left
 

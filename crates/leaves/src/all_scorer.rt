@@ -100,6 +100,7 @@ impl DocSet for AllScorer {
 }
 
 impl Scorer for AllScorer {
+    // 1.0 in each leaf; what shows that it has ended is each one's own.
     fn score(&mut self) -> f32 {
         if self.doc < self.max_doc { 1.0 } else { 0.0 }
     }

@@ -17,6 +17,7 @@ pub struct BitSetDocSet<'a> {
     max_value: u32,
     // the number of ones
     len: u32,
+    // TERMINATED at the end, as it is told
     doc: u32,
     ghost small: { max_value ≤ 2147483647 },
     ghost few: { Few docs.now },

@@ -1,10 +1,9 @@
 -- Draining a set by reading a score and going on: what holds at each turn.
-use Rattle.std.proofs.Common.{◌≡◌, ℕ, ◌<◌, List, [], ◌∷◌, ◌++◌, sym, refl, ap, ◌∙◌, subst, append_assoc, append-nil, arith}
+use Rattle.std.proofs.Common.{◌≡◌, ℕ, List, [], ◌∷◌, ◌++◌, sym, refl, ap, ◌∙◌, subst, append_assoc, arith}
 use lib.Ieee.{Float, binary32, to_bits}
 use Rattle.docset.specs.Meaning.{Meaning, Pair, TERM, Steady, first_id, first_score, rest, Rising}
-use Rattle.docset.specs.Calls.{Told, Moved, Scored}
-use Rattle.docset.proofs.Lists.{ended}
-use Rattle.docset.proofs.Walking.{Along, along_starts, along_steps, ahead, falls}
+use Rattle.docset.specs.Calls.{Moved, Scored}
+use Rattle.docset.proofs.Walking.{Along, along_steps}
 use Rattle.heap.specs.declared.hit.Hit.{Hit}
 use Rattle.pick.specs.Picks.{hits}
 
@@ -12,9 +11,6 @@ use Rattle.pick.specs.Picks.{hits}
 pub record Draining (m n : Meaning) (d : ℕ) (got : List Hit) : Type 0 where
   pub along : Along m n d
   pub total : Steady m → got ++ hits n.pairs ≡ hits m.pairs
-
-pub drain_starts : (m : Meaning) (d : ℕ) → Told m d → Draining m m d []
-drain_starts m d h = record { along = along_starts m d h; total = λ s. refl }
 
 -- reading the score leaves a set where it was
 scored_along : (m n k : Meaning) (d : ℕ) (x : Float) → Along m n d → Scored n k x → Along m k d
@@ -54,13 +50,3 @@ drain_steps m n k o d e x got more i ne h v w =
           ap (λ (l : List Hit). got ++ l) (sym f) ∙
           i.total s;
     }
-
-pub drain_falls :
-    (m n k o : Meaning) (d e : ℕ) (x : Float) → Along m n d → (d ≡ TERM → ⊥) → Scored n k x → Moved k o e → ahead o e < ahead n d
-drain_falls m n k o d e x a ne h v = omega (arith, falls k o d e a.an_id ne v, h.shrinks)
-
-pub drain_ends : (m n : Meaning) (d : ℕ) (got : List Hit) → Draining m n d got → d ≡ TERM → Steady m → got ≡ hits m.pairs
-drain_ends m n d got i e s =
-    let a = i.along in
-    let z : n.pairs ≡ [] = ended 0 n.pairs (a.rises s) (sym (a.tells s) ∙ e) in
-    sym (append-nil got) ∙ ap (λ (l : List Pair). got ++ hits l) (sym z) ∙ i.total s

@@ -72,10 +72,6 @@ ends_short m n o old new xs r turn h f k =
     ap (λ (l : List ℕ). take 64 (ids n.pairs) ++ l) (sym none) ∙ take-append-drop 64 (ids n.pairs)) ∙
     h.all
 
--- after 33554432 full blocks nothing can be left
-pub ends_full : (m n : Meaning) (xs : List ℕ) (turn : ℕ) → Sofar m n xs turn → 33554432 ≤ turn → xs ≡ ids m.pairs
-ends_full m n xs turn h k = absurd (omega (arith, h.left))
-
 -- a set over ids that are not refused hands out these ids
 pub leaf_whole :
     (n : ℕ) (xs ds vs : List ℕ) (place : ℕ) (o : Option Refusal) → o ≡ None → o ≡ ids_refusal xs → ds ≡ kept_ids o xs →

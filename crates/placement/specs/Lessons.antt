@@ -1,5 +1,5 @@
 -- What the box works out of a card's lines.
-use Rattle.std.specs.Prelude.{ℕ, ◌+◌, ◌-◌, cond, List, [], ◌∷◌, length, Some, None, Ok, Err, Option, Result, nat_lt, slice_index}
+use Rattle.std.specs.Prelude.{ℕ, ◌+◌, cond, List, [], ◌∷◌, Some, None, Ok, Err, Option, Result}
 use Rattle.docset.specs.Meaning.{Pair, has}
 use Rattle.docset.specs.declared.refusal.Refusal.{Refusal}
 use Rattle.card.specs.declared.fault.CardFault.{CardFault}
@@ -9,9 +9,6 @@ use Rattle.card.specs.declared.fault.CardFault.TheVariants.{Ids}
 abbrev pub leaf_read : ℕ → Option Refusal → List ℕ → Result (List ℕ) CardFault
 leaf_read n None ids = Ok ids
 leaf_read n (Some why) ids = Err (Ids n why)
-
-abbrev pub last_id : List ℕ → Option ℕ
-last_id ids = cond (nat_lt 0 (length ids)) (Some (slice_index ids (length ids - 1))) None
 
 -- how many of these ids are listed
 abbrev pub listed_count : List ℕ → List Pair → ℕ

@@ -1,9 +1,9 @@
 // What the box does with a card: for each topic a set over its exercises, gone through block by block.
-ghost use Rattle.std.specs.Prelude.{◌≡◌, ◌≤◌, length, IfOk, slice_get, vec_items};
+ghost use Rattle.std.specs.Prelude.{◌≡◌, ◌≤◌, ◌-◌, length, IfOk, slice_get, vec_items};
 ghost use Rattle.docset.specs.Meaning.{Steady, Known, RisingIds, ones, ids as listed_ids};
 ghost use Rattle.leaves.specs.Lists.{ids_refusal, kept_ids};
 ghost use Rattle.card.specs.Faults.{Reads};
-ghost use Rattle.placement.specs.Lessons.{listed_count, last_id, leaf_read};
+ghost use Rattle.placement.specs.Lessons.{listed_count, leaf_read};
 
 use crate::slip::show_slip;
 use anyhow::anyhow;
@@ -64,7 +64,7 @@ pub fn first_of(ids: &[u32]) -> Option<u32>
 }
 
 pub fn last_of(ids: &[u32]) -> Option<u32>
-    ensures { result ≡ last_id ids.now }
+    ensures { result ≡ slice_get ids.now (length ids.now - 1) }
 {
     ids.last().copied()
 }
@@ -133,8 +133,10 @@ fn show_topic(
 
 // Goes through a card and prints the table, up to the first line at fault.
 fn show_card(rt: &HostRuntime, card: &Card) -> Result<(), Stop> {
-    let line = card.seen.as_ref().map_or(0, |seen| seen.line);
-    let seen = leaf_ids(rt.alloc(), line, card.seen())?;
+    let seen = match &card.seen {
+        Some(seen) => leaf_ids(rt.alloc(), seen.line, seen.value.as_slice())?,
+        None => Vec::new(rt.alloc()),
+    };
     println!(rt;
         "{:<26}{:>10}{:>12}{:>12}{:>8}",
         "", "exercises", "first", "last", "seen"

@@ -1,13 +1,13 @@
 -- How long the list of a union can be.
-use Rattle.std.proofs.Common.{◌≡◌, ℕ, zero, suc, ◌+◌, ◌-◌, ◌<◌, ◌≤◌, Bool, true, false, List, [], ◌∷◌, ◌++◌, length, sym, refl, ap, ◌∙◌, ⊎_elim, arith, ne_eqb}
+use Rattle.std.proofs.Common.{◌≡◌, ℕ, zero, suc, ◌+◌, ◌-◌, ◌<◌, ◌≤◌, List, refl, ap, ◌∙◌, ⊎_elim, arith}
 use lib.Ieee.{Float}
 use Rattle.combiner.specs.declared.score_combiner.Tally.{Tally}
-use Rattle.combiner.specs.Cells.{Cell, none, puts, slots, count}
+use Rattle.combiner.specs.Cells.{Cell, slots, count}
 use Rattle.std.proofs.lemmas.Bool.{cases_lt}
-use Rattle.docset.specs.Meaning.{Meaning, Pair}
+use Rattle.docset.specs.Meaning.{Meaning}
 use Rattle.live.proofs.Thresholds.{total, count_united}
-use Rattle.live.specs.Lists.{scores_in, scores_at, united}
-use Rattle.combiner.proofs.Cells.{count_none, count_step, filled, count_more}
+use Rattle.live.specs.Lists.{united}
+use Rattle.combiner.proofs.Cells.{count_step, filled}
 use Rattle.refill.specs.Refills.{reach}
 use Rattle.refill.specs.State.{ahead}
 use Rattle.refill.proofs.States.{ahead_in, ahead_out}

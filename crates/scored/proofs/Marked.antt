@@ -1,8 +1,7 @@
 -- A set that is lost where a test fails keeps each promise, if every call keeps the test.
 use Rattle.std.proofs.Common.{◌≡◌, ℕ, Bool, true, false, List, sym, refl, ap, ◌∙◌, subst}
-use lib.Ieee.{Float}
 use Rattle.docset.specs.Meaning.{Meaning, lost, Steady, Known}
-use Rattle.docset.specs.Calls.{Told, Moved, Sought, Probed, Marks, Filled, Counted, CountedAlive, Scored}
+use Rattle.docset.specs.Calls.{Told, Moved, Sought, Probed, Marks, Filled, Counted, CountedAlive}
 use Rattle.docset.specs.declared.docset.SeekDangerResult.{SeekDangerResult}
 use Rattle.docset.proofs.Lists.{steady_known}
 use Rattle.scored.specs.Optional.{marked}
@@ -88,8 +87,3 @@ counted_marked c m r h = record { tells = λ s. h.tells (marked_steady c m s).1 
 pub counted_alive_marked :
     (c : Bool) (ws : List ℕ) (m : Meaning) (r : ℕ) → CountedAlive ws m r → CountedAlive ws (marked c m) r
 counted_alive_marked c ws m r h = record { tells = λ s. h.tells (marked_steady c m s).1 }
-
--- a score that leaves the test as it is
-pub scored_marked : (c : Bool) (m : Meaning) (x : Float) → Scored m m x → Scored (marked c m) (marked c m) x
-scored_marked c m x h =
-    record { shrinks = h.shrinks; same = λ s. refl; tells = λ s. h.tells (marked_steady c m s).1 }

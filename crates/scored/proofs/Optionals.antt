@@ -5,7 +5,7 @@ use Rattle.std.proofs.lemmas.Bool.{cond-true, cond-false, cases_lt, eq-eqb, ne_e
 use Rattle.docset.specs.Meaning.{Meaning, is_steady, Pair, TERM, Steady, calm, first_id, first_score, from, Rising}
 use Rattle.docset.specs.Calls.{Told, Moved, Sought, Probed, Filled, Counted, CountedAlive, Scored}
 use Rattle.docset.specs.declared.docset.SeekDangerResult.{SeekDangerResult}
-use Rattle.docset.proofs.Lists.{steady_known, steady_is, is_then_steady, rising_from, from_lt, from_ge, from_least}
+use Rattle.docset.proofs.Lists.{steady_known, steady_is, is_then_steady, rising_from, from_lt, from_ge, from_least, rising_here}
 use Rattle.std.specs.Option.{option_to_list}
 use Rattle.scored.specs.Rescored.{rescored, retold}
 use Rattle.scored.specs.Optional.{scores_of, both, same_float, cached, opted, LookedUp}
@@ -68,11 +68,6 @@ counted_alive_opted h k ws m o r v =
     counted_alive_marked (test h k m o) ws _ r (counted_alive_retold (both h o.pairs) ws m r v)
 
 -- ---- the look for a score
-
--- a rising list rises from its first id on
-rising_here : (ps : List Pair) → Rising 0 ps → Rising (first_id ps) ps
-rising_here [] r = tt
-rising_here (p ∷ ps) r = (omega arith, r.1, r.2)
 
 scores_ne : (d : ℕ) (p : Pair) (ps : List Pair) → (p.id ≡ d → ⊥) → scores_of d (p ∷ ps) ≡ scores_of d ps
 scores_ne d p ps n = cond-false (eqb p.id d) (p.score ∷ []) (scores_of d ps) (ne_eqb p.id d n)

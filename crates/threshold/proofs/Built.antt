@@ -1,15 +1,13 @@
 -- A threshold as it is built.
-use Rattle.std.proofs.Common.{◌≡◌, ℕ, suc, ◌+◌, ◌<◌, ◌≤◌, Bool, List, [], length, sym, ap, ◌∙◌, subst, ⊎_elim, arith}
+use Rattle.std.proofs.Common.{◌≡◌, ℕ, suc, ◌+◌, ◌<◌, ◌≤◌, List, [], length, sym, ap, ◌∙◌, subst, arith}
 use lib.Ieee.{Float}
-use Rattle.std.proofs.lemmas.Bool.{cases_lt}
 use Rattle.docset.specs.Meaning.{Meaning, TERM, Steady, Rising, calm, from}
 use Rattle.combiner.specs.declared.score_combiner.Tally.{Tally}
 use Rattle.bank.specs.Places.{at}
 use Rattle.heap.specs.declared.order.Entry.{Entry}
 use Rattle.live.specs.Sets.{empty, passed, AllSteady}
-use Rattle.live.specs.Kept.{kept}
 use Rattle.live.specs.Lists.{threshold_list}
-use Rattle.live.proofs.Keeps.{steady_at, steady_all, rising_all, length_kept, at_outside, idle_steady}
+use Rattle.live.proofs.Keeps.{steady_at, steady_all, rising_all, at_outside, idle_steady}
 use Rattle.live.proofs.Passed.{at_passed_sets}
 use Rattle.live.proofs.Thresholds.{threshold_alike}
 use Rattle.threshold.specs.Entries.{weight, Ready}

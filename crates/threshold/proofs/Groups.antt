@@ -304,9 +304,6 @@ pub record Loading (P : List Meaning) (E : List Entry) (i : ℕ) : Type 0 where
   pub rises : AllSteady P → (k : ℕ) → k < i → Rising 0 (at P k).pairs
   pub counts : AllSteady P → (f : Entry → ℕ) → sum_by f E + weights f i (drop i P) ≡ weights f 0 P
 
-pub loading_none : (P : List Meaning) → Loading P [] 0
-loading_none P = record { rises = λ s k l. absurd (omega arith); counts = λ s f. zero-add (weights f 0 P) }
-
 loading_by :
     (P : List Meaning) (E F : List Entry) (i d : ℕ) → Told (at P i) d → Loading P E i →
     (Steady (at P i) → (f : Entry → ℕ) → sum_by f F ≡ weight f i (at P i) + sum_by f E) → Loading P F (i + 1)

@@ -1,5 +1,5 @@
 -- What the fields of a union keep between calls.
-use Rattle.std.proofs.Common.{◌≡◌, ℕ, zero, suc, ◌+◌, ◌-◌, ◌<◌, ◌≤◌, List, [], ◌∷◌, length, sym, refl, ap, ◌∙◌, subst, ⊎_elim, arith}
+use Rattle.std.proofs.Common.{◌≡◌, ℕ, zero, suc, ◌+◌, ◌-◌, ◌<◌, ◌≤◌, List, [], ◌∷◌, sym, refl, ap, ◌∙◌, subst, ⊎_elim, arith}
 use lib.Ieee.{Float}
 use Rattle.combiner.specs.declared.score_combiner.Tally.{Tally}
 use Rattle.window.specs.Slots.{slot}
@@ -14,9 +14,7 @@ use Rattle.docset.specs.Meaning.{Meaning, TERM, Steady, calm, from, first_id}
 use Rattle.bank.specs.Places.{Rows, at}
 use Rattle.live.specs.Sets.{AllSteady, AllRising, lowest_of, passed}
 use Rattle.live.specs.Lists.{united}
-use Rattle.live.specs.Views.{left, awaited}
-use Rattle.live.specs.declared.live.Live.{Live}
-use Rattle.live.proofs.Keeps.{at_outside, steady_all, steady_at, length_kept}
+use Rattle.live.proofs.Keeps.{steady_all, steady_at}
 use Rattle.refill.specs.Refills.{reach, Refilled}
 use Rattle.refill.specs.State.{union_meaning, union_means, Opened, Anew}
 use Rattle.live.proofs.Thresholds.{total}

@@ -9,7 +9,6 @@ use Rattle.docset.proofs.Lists.{length_ids}
 use Rattle.docset.proofs.Walking.{Filling}
 use Rattle.combiner.specs.declared.score_combiner.Tally.{Tally}
 use Rattle.combiner.specs.Cells.{slots}
-use Rattle.live.specs.Kept.{due}
 use Rattle.window.specs.declared.window.Window.{Window}
 use Rattle.window.specs.Windows.{cells, Wiped, shifted}
 use Rattle.refill.specs.State.{bound, settled, Reads, ReadsThrough, trail}

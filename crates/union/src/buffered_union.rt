@@ -17,6 +17,7 @@ pub struct BufferedUnionScorer<B, C> {
     window: Window,
     // The id of the window's first slot.
     start: u32,
+    // TERMINATED at the end, as `doc` answers it.
     doc: u32,
     // The current document's score.
     score: f32,

@@ -13,6 +13,7 @@ pub const HORIZON: u32 = 4096;
 
 // A tally for each of 4096 slots, of which those whose bit is set hold something.
 //
+// The bits and the tallies are apart, so that empty slots are passed and slots are counted a word at a time.
 // A slot that holds nothing has the start tally (`rest`), so that a score is taken into it with no test. The words before
 // `bucket` are empty (`behind`).
 #[derive(Drop)]

@@ -1,4 +1,4 @@
-use Rattle.std.proofs.Common.{◌+◌, ◌≤◌, List, length, sym, ap, subst, arith}
+use Rattle.std.proofs.Common.{◌+◌, ◌≤◌, List, length, sym, subst, arith}
 use Rattle.std.proofs.lemmas.List.Sorted.{length_permutation, sum_by_pushed}
 use Rattle.heap.specs.declared.order.Entry.{Entry}
 use Rattle.live.specs.Views.{left}

@@ -3,7 +3,6 @@ use Rattle.std.proofs.Common.{ap, ◌∙◌, arith}
 use Rattle.docset.specs.Meaning.{Meaning, calm, from}
 use Rattle.bank.specs.Places.{at}
 use Rattle.live.specs.Sets.{lowest_of}
-use Rattle.live.specs.Kept.{kept}
 use Rattle.live.proofs.Keeps.{idle_steady, idle_low, alike_places}
 use Rattle.live.proofs.Scores.{union_alike}
 use Rattle.refill.specs.Refills.{reach}

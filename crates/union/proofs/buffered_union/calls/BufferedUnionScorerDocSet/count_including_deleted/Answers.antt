@@ -5,7 +5,6 @@ use Rattle.docset.specs.Meaning.{Steady, calm}
 use Rattle.docset.proofs.Lists.{short, ended, steady_known}
 use Rattle.combiner.proofs.Cells.{count_le}
 use Rattle.live.specs.Lists.{union_list}
-use Rattle.live.specs.Kept.{due}
 use Rattle.refill.specs.State.{bound, settled}
 use Rattle.refill.proofs.States.{settled_is}
 use Rattle.refill.proofs.Moves.{told, is_settled}
