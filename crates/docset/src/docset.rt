@@ -1,7 +1,7 @@
 ghost use Rattle.std.specs.Prelude.{◌≡◌, ℕ, if◌then◌else◌, nat_eq};
 ghost use Rattle.docset.specs.declared.docset.SeekDangerResult.TheVariants.{Found, SeekLowerBound};
-ghost use Rattle.docset.specs.Meaning.{Meaning};
-ghost use Rattle.docset.specs.Calls.{Told, Moved, Sought, Probed, Filled, Counted, CountedAlive};
+ghost use Rattle.docset.specs.Meaning.{Meaning, Steady};
+ghost use Rattle.docset.specs.Calls.{Told, Moved, Sought, Probed, ProbedSteady, Filled, Counted, CountedAlive};
 
 use crate::alive_bitset::AliveBitSet;
 
@@ -11,7 +11,7 @@ pub const TERMINATED: u32 = 2147483647;
 // How many ids one block holds.
 pub const COLLECT_BLOCK_BUFFER_LEN: usize = 64;
 
-// What a probe answers. It is no `Result`: the name and the cases are the Rust's, and a miss is no error.
+// What a probe answers. It is no `Result`: the name and the cases are tantivy's, and a miss is no error.
 #[derive(Clone, Copy, PartialEq, Eq, Debug)]
 pub enum SeekDangerResult {
     // The target is listed, and is now the current document.
@@ -39,8 +39,8 @@ impl SeekDangerResult {
 // answer by that list, and a set stays steady until a probe misses. `hint` and `price` are what `size_hint` and `cost` answer.
 // A count takes the set: the checker refuses every call after it.
 //
-// A set that has nothing better keeps the bodies that are given here: they go on one document at a time. A probe has none: a miss
-// may leave a set of which a seek promises nothing, but the next probe does.
+// A set that has nothing better keeps the bodies that are given here: they go on one document at a time. `seek_danger` has none, since
+// after a miss only probes are promised, and a seek cannot serve for every set; a set that is always steady calls `probe_by_seek`.
 pub trait DocSet: Drop + Sized {
     ghost meaning: { Self → Meaning };
 
@@ -70,6 +70,22 @@ pub trait DocSet: Drop + Sized {
     // Whether the target is listed. After a miss only probes are promised, until one finds its target.
     fn seek_danger(&mut self, target: u32) -> SeekDangerResult
         ensures { Probed target (meaning self.old) (meaning self.new) result };
+
+    // A probe by a seek. It is promised of steady sets alone, and leaves them steady after a miss too.
+    fn probe_by_seek(&mut self, target: u32) -> SeekDangerResult
+        ensures probes { ProbedSteady target (meaning self.old) (meaning self.new) result }
+        ensures stays { Steady (meaning self.old) → Steady (meaning self.new) }
+    {
+        let doc = self.doc();
+        if target >= TERMINATED {
+            return SeekDangerResult::SeekLowerBound(TERMINATED);
+        }
+        if target <= doc {
+            return SeekDangerResult::at(doc, target);
+        }
+        let doc = self.seek(target);
+        SeekDangerResult::at(doc, target)
+    }
 
     // Writes the next documents to the front of the buffer, passes them, and answers how many there were.
     fn fill_buffer(&mut self, buffer: &mut [u32; COLLECT_BLOCK_BUFFER_LEN]) -> usize
@@ -104,8 +120,8 @@ pub trait DocSet: Drop + Sized {
         alive
     }
 
-    // How many documents are still listed. The loop is that of `count` without its test: a body here can hand its set to no
-    // common function.
+    // How many documents are still listed. It is the loop of `count` without the test: a common function would need a bound on this
+    // trait, which a body here cannot meet.
     fn count_including_deleted(mut self) -> u32
         ensures { Counted (meaning self) result }
     {

@@ -5,4 +5,3 @@ pub mod alive_bitset;
 pub mod docset;
 pub mod refusal;
 pub mod scorer;
-pub mod walk;

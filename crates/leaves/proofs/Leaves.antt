@@ -135,19 +135,3 @@ slice_scored_end xs c h = scored_end (drop c xs) (drop_of_length-le xs {i = c} h
 
 pub slice_counted : (xs : List ℕ) (c : ℕ) → Counted (listed xs c) (length xs - c)
 slice_counted xs c = record { tells = λ _. sym (length_ones (drop c xs) ∙ length-drop c xs) }
-
--- ---- probes
-
--- a target that is no id
-pub probed_past :
-    (t : ℕ) (xs : List ℕ) → RisingIds 0 xs → TERM ≤ t → Probed t (calm (ones xs)) (calm (ones xs)) (SeekLowerBound 2147483647)
-probed_past t xs r h =
-    always t (calm (ones xs)) (calm (ones xs)) (SeekLowerBound TERM) refl
-    (probe_past t (calm (ones xs)) h (λ _. rising_ones 0 xs r))
-
--- any other, which was sought
-pub probed_sought :
-    (t : ℕ) (xs : List ℕ) (n : Meaning) (d : ℕ) (r : SeekDangerResult) → RisingIds 0 xs → t < TERM →
-    Sought t (calm (ones xs)) n d → r ≡ cond (eqb d t) Found (SeekLowerBound d) → Probed t (calm (ones xs)) n r
-probed_sought t xs n d r q h s e =
-    always t (calm (ones xs)) n r refl (probe_sought t (calm (ones xs)) n d r h (λ _. rising_ones 0 xs q) s e)

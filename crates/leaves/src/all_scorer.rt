@@ -71,11 +71,7 @@ impl DocSet for AllScorer {
     }
 
     fn seek_danger(&mut self, target: u32) -> SeekDangerResult {
-        if target >= TERMINATED {
-            return SeekDangerResult::SeekLowerBound(TERMINATED);
-        }
-        let doc = self.seek(target);
-        SeekDangerResult::at(doc, target)
+        self.probe_by_seek(target)
     }
 
     fn fill_buffer(&mut self, buffer: &mut [u32; COLLECT_BLOCK_BUFFER_LEN]) -> usize {

@@ -150,11 +150,7 @@ impl<'a> DocSet for BitSetDocSet<'a> {
     }
 
     fn seek_danger(&mut self, target: u32) -> SeekDangerResult {
-        if target >= TERMINATED {
-            return SeekDangerResult::SeekLowerBound(TERMINATED);
-        }
-        let doc = self.seek(target);
-        SeekDangerResult::at(doc, target)
+        self.probe_by_seek(target)
     }
 
     fn size_hint(&self) -> u32 {

@@ -84,11 +84,7 @@ impl<'a> DocSet for VecDocSet<'a> {
     }
 
     fn seek_danger(&mut self, target: u32) -> SeekDangerResult {
-        if target >= TERMINATED {
-            return SeekDangerResult::SeekLowerBound(TERMINATED);
-        }
-        let doc = self.seek(target);
-        SeekDangerResult::at(doc, target)
+        self.probe_by_seek(target)
     }
 
     fn count_including_deleted(self) -> u32 {

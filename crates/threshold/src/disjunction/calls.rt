@@ -130,11 +130,7 @@ impl<B: Bank, C: ScoreCombiner> DocSet for Disjunction<B, C> {
     }
 
     fn seek_danger(&mut self, target: u32) -> SeekDangerResult {
-        if target >= TERMINATED {
-            return SeekDangerResult::SeekLowerBound(TERMINATED);
-        }
-        let doc = self.seek(target);
-        SeekDangerResult::at(doc, target)
+        self.probe_by_seek(target)
     }
 
     // The greatest hint of all sets, while any of them has something left or all are yet to be read.
