@@ -104,8 +104,8 @@ impl Bank for NoSets {
     }
 }
 
-// A set of any type at place 0, and behind it the sets of another bank. Each call at a place calls another method of the
-// set, which no common function can be handed: a count takes its set, so there is no `dyn DocSet`. So each has the same test.
+// A set of any type at place 0, and behind it the sets of another bank. The two have different types and each call is another
+// method, so each has its own test of the place.
 #[derive(Drop)]
 pub struct Sets<S, B> {
     first: S,

@@ -40,7 +40,7 @@ impl Tally {
 // `taken` is what it makes of a tally and a score, `told` the score that it tells of a tally, and `plain` the combiner
 // that is taken where none is asked for.
 pub trait ScoreCombiner: Default + Drop + Sized {
-    // Whether scores are read.
+    // Whether scores are read. The ghost member of this name is what contracts cite; it is checked to be the constant.
     const READS_SCORES: bool;
 
     ghost READS_SCORES: { Bool };
@@ -190,8 +190,8 @@ impl ScoreCombiner for DisjunctionMaxCombiner {
     }
 }
 
-// Whether generic code has to ask for scores. Where it need not, the law above says that any scores serve. The combiner
-// tells the type alone.
+// Whether generic code has to ask for scores. Where it need not, the law above says that any scores serve. The argument
+// says only which combiner.
 pub fn reads_scores<C: ScoreCombiner>(_c: &C) -> bool
     ensures { result ≡ C.ScoreCombiner.READS_SCORES }
 {

@@ -3,8 +3,8 @@ ghost use Rattle.docset.specs.Refusals.{number_of, place_of, words_of};
 
 use std::fmt;
 
-// Why a builder refuses what it was given. A refused builder answers one of these beside a set
-// that is empty, with hint and cost 0.
+// Why a builder refuses what it was given. It is told beside what was built and is no `Err`: a refused set can still be
+// used, as an empty one with hint and cost 0, and a refused combiner has the tie-breaker 0.0.
 #[derive(Clone, Copy, PartialEq, Eq, Debug)]
 pub enum Refusal {
     // The id at this place is not above the id before it.

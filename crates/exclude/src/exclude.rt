@@ -19,7 +19,7 @@ pub trait ExclusionSet: Drop {
         ensures { Asked doc (lists self.old) (lists self.new) result };
 }
 
-// The ids of one set.
+// The ids of one set. It and `AnyOf` are two types: two implementations for all sets and all banks would overlap.
 #[derive(Drop)]
 pub struct OneSet<S> {
     set: S,
@@ -124,7 +124,7 @@ impl<S: DocSet, E: ExclusionSet> DocSet for Exclude<S, E> {
         next_kept(&mut self.underlying, &mut self.exclusion, candidate)
     }
 
-    // A steady set stays steady. As with a seek, a target at or below the current document changes nothing,
+    // As `probe_by_seek`, with one more promise. A steady set stays steady. As with a seek, a target at or below the current document changes nothing,
     // nor does one that is no id.
     fn seek_danger(&mut self, target: u32) -> SeekDangerResult
         ensures probed { Probed target (⟦<Self as DocSet>⟧.meaning self.old) (⟦<Self as DocSet>⟧.meaning self.new) result }

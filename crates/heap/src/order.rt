@@ -11,7 +11,7 @@ pub struct Entry {
 }
 
 impl Entry {
-    /// Whether this entry stands at or before the other. What the derived order comes to, in one clause.
+    /// Whether this entry stands at or before the other. It says in one clause what the derived order is.
     pub fn at_or_before(&self, other: &Entry) -> bool
         ensures { result ≡ lex self.now.id self.now.place other.now.id other.now.place }
     {

@@ -1,4 +1,4 @@
-ghost use Rattle.std.specs.Prelude.{◌≡◌, ◌+◌, ◌≤◌, cond, ◌++◌, drop, if◌then◌else◌, Some, None, nat_lt, length};
+ghost use Rattle.std.specs.Prelude.{◌≡◌, ◌+◌, ◌≤◌, cond, if◌then◌else◌, Some, None, nat_lt, length};
 ghost use Rattle.docset.specs.Meaning.{calm, ones};
 ghost use Rattle.docset.specs.declared.refusal.Refusal.TheVariants.{SegmentTooLarge};
 ghost use Rattle.leaves.specs.Ranges.{run};
@@ -96,7 +96,7 @@ impl DocSet for AllScorer {
 }
 
 impl Scorer for AllScorer {
-    // 1.0 in each leaf; what shows that it has ended is each one's own.
+    // As in the other leaves, but for the test of the end, which is each leaf's own.
     fn score(&mut self) -> f32 {
         if self.doc < self.max_doc { 1.0 } else { 0.0 }
     }

@@ -22,7 +22,7 @@ fn find_large(doc_ids: &[u32]) -> Option<usize>
     doc_ids.iter().position(|id| *id >= TERMINATED)
 }
 
-// The place of the first id that is not above the one before it.
+// The place of the first id that is not above the one before it. A loop: as a chain with `position` its proof did not close.
 fn find_flat(doc_ids: &[u32]) -> Option<usize>
     ensures { result ≡ first_flat doc_ids.now }
 {
@@ -83,6 +83,7 @@ impl<'a> DocSet for VecDocSet<'a> {
         self.doc()
     }
 
+    // Its seek is the given one, id by id, as tantivy's is.
     fn seek_danger(&mut self, target: u32) -> SeekDangerResult {
         self.probe_by_seek(target)
     }

@@ -5,7 +5,9 @@ pub mod calls;
 // How many sets of a bank are asked at most.
 pub const MOST: usize = 32;
 
-// A bank that remembers which of its first 32 sets have answered TERMINATED, and asks those no more.
+// A bank that remembers which of its first 32 sets have answered TERMINATED, and asks those for no more documents.
+//
+// It stands apart from its functions: their clauses cite definitions over it, which its own file cannot.
 #[derive(Drop)]
 pub struct Live<B> {
     bank: B,

@@ -18,21 +18,19 @@ pub fn horizon(start: u32) -> u32
     start.saturating_add(HORIZON).min(TERMINATED)
 }
 
-// Reads one set below the end of the window.
+// Reads one set below the end of the window that starts at an id.
 fn pour<B: Bank, C: ScoreCombiner>(
     sets: &mut Live<B>,
     place: usize,
     window: &mut Window,
     combiner: &C,
     start: u32,
-    end: u32,
 )
-    requires top { end ≤ 2147483647 }
-    requires span { end ≤ start + 4096 }
-    ensures poured { Poured (C.ScoreCombiner.taken combiner.now) start end (at (left B.Bank.rows sets.old) place) (at (left B.Bank.rows sets.new) place) (cells window.old) (cells window.new) }
+    ensures poured { Poured (C.ScoreCombiner.taken combiner.now) start (reach start) (at (left B.Bank.rows sets.old) place) (at (left B.Bank.rows sets.new) place) (cells window.old) (cells window.new) }
     ensures others { left B.Bank.rows sets.new ≡ slice_set (left B.Bank.rows sets.old) place (at (left B.Bank.rows sets.new) place) }
     ensures pays { count (cells window.new) 0 4096 + awaited B.Bank.rows sets.new ≤ count (cells window.old) 0 4096 + awaited B.Bank.rows sets.old }
 {
+    let end = horizon(start);
     let mut doc = sets.doc_at(place);
     while doc < end {
         let score = sets.wanted_score(place, combiner);
@@ -44,7 +42,7 @@ fn pour<B: Bank, C: ScoreCombiner>(
 }
 
 // Reads every set below the end of the window that starts at an id. The sets are read in bank order, and what each lists there
-// is taken into the window. No more is left of both together than before.
+// is taken into the window. What the window holds and what the sets have left, together, is no more than before.
 pub fn refill<B: Bank, C: ScoreCombiner>(
     sets: &mut Live<B>,
     window: &mut Window,
@@ -54,8 +52,7 @@ pub fn refill<B: Bank, C: ScoreCombiner>(
     ensures filled { Refilled (C.ScoreCombiner.taken combiner.now) start (reach start) (left B.Bank.rows sets.old) (left B.Bank.rows sets.new) (cells window.old) (cells window.new) }
     ensures pays { count (cells window.new) 0 4096 + awaited B.Bank.rows sets.new ≤ count (cells window.old) 0 4096 + awaited B.Bank.rows sets.old }
 {
-    let end = horizon(start);
     for place in 0..MOST {
-        pour(sets, place, window, combiner, start, end);
+        pour(sets, place, window, combiner, start);
     }
 }

@@ -43,6 +43,7 @@ impl<S: Scorer> BoostScorer<S> {
     }
 }
 
+// Each call is another method of the set below, so that each has its own match on the boost.
 impl<S: Scorer> DocSet for BoostScorer<S> {
     ghost meaning = { λ b. boost_means b.boost (S.DocSet.meaning b.underlying) };
 

@@ -11,8 +11,8 @@ use docset::docset::{COLLECT_BLOCK_BUFFER_LEN, DocSet, SeekDangerResult, TERMINA
 use docset::scorer::Scorer;
 use std::marker::PhantomData;
 
-// The documents of the required set. Each score is combined of the required score and then, where the optional set
-// has the document too, of the optional one. Only `score` asks the optional set.
+// The documents of the required set. Each score combines the required one and then, where the optional set has the
+// document too, the optional one. Only `score` asks the optional set, and each other call promises that it stays as it is.
 #[derive(Drop)]
 pub struct RequiredOptionalScorer<R, O, C> {
     required: R,

@@ -10,6 +10,8 @@ pub mod calls;
 //
 // The sets are read a window of 4096 ids at a time. The current document was taken out of the window already; what the window still
 // holds lies after it. A set that has ended is never asked again.
+//
+// It stands apart from its functions: their clauses cite definitions over it, which its own file cannot.
 #[derive(Drop)]
 pub struct BufferedUnionScorer<B, C> {
     sets: Live<B>,
@@ -21,7 +23,7 @@ pub struct BufferedUnionScorer<B, C> {
     doc: u32,
     // The current document's score.
     score: f32,
-    // How many documents the segment has, for the hint.
+    // How many documents the segment has, for the hint. That it stays is one short equation in the clauses of each call.
     num_docs: u32,
     ghost an_id: { doc ≤ 2147483647 },
     ghost begun: { start ≤ doc },

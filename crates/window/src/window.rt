@@ -9,9 +9,10 @@ pub mod calls;
 pub const HORIZON_NUM_TINYBITSETS: usize = 64;
 
 // How many slots a window has: one for each bit.
-pub const HORIZON: u32 = 4096;
+pub const HORIZON: u32 = 64 * HORIZON_NUM_TINYBITSETS as u32;
 
-// A tally for each of 4096 slots, of which those whose bit is set hold something.
+// A tally for each of 4096 slots, of which those whose bit is set hold something. It stands apart from its functions: their clauses
+// cite definitions over it, which its own file cannot.
 //
 // The bits and the tallies are apart, so that empty slots are passed and slots are counted a word at a time.
 // A slot that holds nothing has the start tally (`rest`), so that a score is taken into it with no test. The words before

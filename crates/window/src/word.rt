@@ -1,4 +1,4 @@
-ghost use Rattle.std.specs.Prelude.{◌≡◌, ℕ, ◌<◌, ◌≤◌, length, nat_lt, count_ones, position};
+ghost use Rattle.std.specs.Prelude.{◌≡◌, ◌<◌, ◌≤◌, length, nat_lt, count_ones, position};
 ghost use Rattle.std.specs.List.{sum_by};
 ghost use Rattle.window.specs.Slots.{Popped};
 

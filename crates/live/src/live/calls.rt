@@ -15,7 +15,8 @@ use combiner::size_hint::estimate_union;
 use docset::docset::TERMINATED;
 use std::array;
 
-// A bank is asked by place and lends no slice of its sets, so some loops go over the places.
+// A bank is asked by place and lends no slice of its sets, so some loops go over the places. `greatest_hint` and `greatest_cost` ask
+// each another method: a common function would be longer than both.
 impl<B: Bank> Live<B> {
     // Nothing is moved. A set that has ended already is not asked again.
     pub fn new(bank: B) -> Live<B>
@@ -26,7 +27,7 @@ impl<B: Bank> Live<B> {
         Live { bank, live }
     }
 
-    // A bank of which nothing is ever asked.
+    // A bank of which no document, score or step is ever asked.
     pub fn idle(bank: B) -> Live<B>
         ensures bank { result.bank ≡ bank }
         ensures none { (P : List Meaning) → (k : ℕ) → at (kept result.live P) k ≡ empty }
@@ -91,7 +92,8 @@ impl<B: Bank> Live<B> {
         }
     }
 
-    // The lowest document that any set stands at. It is told here too that the ids of each set rise.
+    // The lowest document that any set stands at. It is told here too that the ids of each set rise: so it is a loop, which keeps
+    // what each set promises.
     pub fn lowest(&self) -> u32
         ensures an_id { result ≤ TERM }
         ensures rises { AllSteady (left B.Bank.rows self.now) → AllRising (left B.Bank.rows self.now) }
@@ -125,7 +127,8 @@ impl<B: Bank> Live<B> {
         }
     }
 
-    // The estimate of the union's size, from the hints of the sets that have not ended.
+    // The estimate of the union's size, from the hints of the sets that have not ended. They are gathered first, since
+    // `estimate_union` takes a slice: an iterator would ask more of its callers.
     pub fn estimate(&self, num_docs: u32) -> u32
         ensures { result ≡ union_estimate (live_hints B.Bank.rows self.now) num_docs }
     {

@@ -163,7 +163,7 @@ impl<B: Bank, C: ScoreCombiner> DocSet for BufferedUnionScorer<B, C> {
         self.open()
     }
 
-    // A steady union stays steady. A target that is no id moves nothing.
+    // As `probe_by_seek`, with one more promise. A steady union stays steady; a target that is no id moves nothing.
     fn seek_danger(&mut self, target: u32) -> SeekDangerResult
         ensures probes { Probed target (⟦<Self as DocSet>⟧.meaning self.old) (⟦<Self as DocSet>⟧.meaning self.new) result }
         ensures stays { Steady (⟦<Self as DocSet>⟧.meaning self.old) → Steady (⟦<Self as DocSet>⟧.meaning self.new) }
