@@ -46,7 +46,8 @@ pub fn check_ids(doc_ids: &[u32]) -> Option<Refusal>
 
 impl<'a> VecDocSet<'a> {
     // A leaf over these ids, from the first on, or an empty leaf beside the reason why. It is no `Result`,
-    // here and in the other builders: a set that is refused can still be used, as an empty one.
+    // here and in the other builders: a set that is refused can still be used, as an empty one. There is a literal for each
+    // case, which is proved by what that case knows.
     pub fn new(doc_ids: &'a [u32]) -> (Option<Refusal>, VecDocSet<'a>)
         ensures answer { result.0 ≡ ids_refusal doc_ids.now }
         ensures over { result.1.doc_ids.now ≡ kept_ids result.0 doc_ids.now }

@@ -68,6 +68,7 @@ impl<B: Bank, C: ScoreCombiner> BufferedUnionScorer<B, C> {
         ensures hint { 32 < length (B.Bank.rows bank).places → ⟦<BufferedUnionScorer<B, C> as DocSet>⟧.hint result.1 ≡ 0 }
         ensures cost { 32 < length (B.Bank.rows bank).places → ⟦<BufferedUnionScorer<B, C> as DocSet>⟧.price result.1 ≡ 0 }
     {
+        // One literal for each case: each is proved by what its case knows.
         let window = Window::new();
         if bank.len() > MOST {
             let sets = Live::idle(bank);
@@ -216,6 +217,7 @@ impl<B: Bank, C: ScoreCombiner> DocSet for BufferedUnionScorer<B, C> {
 }
 
 impl<B: Bank, C: ScoreCombiner> Scorer for BufferedUnionScorer<B, C> {
+    // At the end it is 0.0, whatever score is kept: no fact of the type ties the two.
     fn score(&mut self) -> f32 {
         if self.doc == TERMINATED {
             return 0.0;

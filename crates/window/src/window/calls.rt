@@ -84,7 +84,8 @@ impl Window {
 
     // Takes out slots, lowest first, and writes their ids, counted from `start`, into the buffer after the places that are
     // filled already, until it is full. Answers how many places are filled then. Where `start` is past TERMINATED, or more
-    // places are said to be filled than there are, nothing is changed.
+    // places are said to be filled than there are, nothing is changed. It takes the whole buffer and a length, since it promises
+    // something at each.
     pub fn drain(
         &mut self,
         start: u32,
