@@ -34,7 +34,7 @@ pub(crate) struct Stand {
 }
 
 impl<B: Bank> Queue<B> {
-    // Nothing of the bank is ever asked.
+    // No set of the bank is ever asked for a document, a score or a step.
     pub(crate) fn idle(bank: B) -> Queue<B>
         ensures none { (k : ℕ) → at (left B.Bank.rows result.sets) k ≡ empty }
         ensures unqueued { result.chains ≡ [] }

@@ -57,21 +57,16 @@ impl<B: Bank, C: ScoreCombiner> Disjunction<B, C> {
             );
         }
         let mut queue = Queue::new(bank, count);
-        if count < minimum {
-            let waiting = Disjunction {
-                queue,
-                combiner,
-                minimum,
-                stand: None,
-            };
-            return (None, waiting);
-        }
-        let stand = queue.next_group(&combiner, minimum);
+        let stand = if count < minimum {
+            None
+        } else {
+            Some(queue.next_group(&combiner, minimum))
+        };
         let set = Disjunction {
             queue,
             combiner,
             minimum,
-            stand: Some(stand),
+            stand,
         };
         (None, set)
     }
