@@ -1,5 +1,6 @@
 ghost use Rattle.std.specs.Prelude.{◌≡◌, ◌<◌, ◌≤◌, true, false, [], length};
-ghost use Rattle.threshold.specs.Stands.{unread, doc_at};
+ghost use Rattle.docset.specs.Meaning.{zero_score};
+ghost use Rattle.threshold.specs.Stands.{unread, doc_at, score_at};
 
 use crate::queue::{Queue, Stand};
 
@@ -17,5 +18,6 @@ pub struct Disjunction<B, C> {
     stand: Option<Stand>,
     ghost an_id: { doc_at stand ≤ 2147483647 },
     ghost ends: { doc_at stand ≡ 2147483647 → unread stand ≡ false → queue.chains ≡ [] },
+    ghost scoreless: { doc_at stand ≡ 2147483647 → score_at stand ≡ zero_score },
     ghost waits: { unread stand ≡ true → (doc_at stand ≡ 2147483647) × (length queue.chains < minimum) },
 }

@@ -147,9 +147,6 @@ impl<B: Bank, C: ScoreCombiner> DocSet for Disjunction<B, C> {
 
 impl<B: Bank, C: ScoreCombiner> Scorer for Disjunction<B, C> {
     fn score(&mut self) -> f32 {
-        match self.stand {
-            Some(stand) if stand.doc != TERMINATED => stand.score,
-            _ => 0.0,
-        }
+        self.stand.map_or(0.0, |stand| stand.score)
     }
 }
