@@ -11,6 +11,6 @@ unread stand = is_none stand
 abbrev pub doc_at : Option Stand → ℕ
 doc_at stand = option_map_or (λ (s : Stand). s.doc) stand TERM
 
--- its score
+-- its score, 0.0 where there is none
 abbrev pub score_at : Option Stand → Float
 score_at stand = option_map_or (λ (s : Stand). s.score) stand zero_score

@@ -53,11 +53,11 @@ on doc unread = cond (nat_lt doc TERM || unread) 1 0
 abbrev pub room : {B : Type 0} → (B → Rows) → Queue B → ℕ
 room rows q = length q.chains + awaited rows q.sets
 
--- its sets are yet to be read
+-- whether the sets are yet to be read
 abbrev pub unread_of : {B C : Type 0} → Disjunction B C → Bool
 unread_of d = unread d.stand
 
--- its current document, TERM where there is none
+-- the current document, TERM where there is none
 abbrev pub doc_of : {B C : Type 0} → Disjunction B C → ℕ
 doc_of d = doc_at d.stand
 
