@@ -114,19 +114,18 @@ module _ (least : ℕ) (step : Tally → Float → Tally) (tell : Tally → Floa
       on_doc : (d : ℕ) (b : Bool) → d < TERM → on d b ≡ 1
       on_doc d b l = let t = lt-ltb d TERM l in rw t
 
-  pub scored_end : doc ≡ TERM → Scored (means least step tell doc x E P room) (means least step tell doc x E P room) zero_score
-  scored_end q = record {
+  pub scored : doc ≤ TERM → (doc ≡ TERM → x ≡ zero_score) → Scored (means least step tell doc x E P room) (means least step tell doc x E P room) x
+  scored le none = record {
     shrinks = omega arith;
     same = λ s. refl;
-    tells = λ s. sym (ap (λ m. first_score m.pairs) (is_calm (steady_fit s)) ∙ ap first_score (ended least step tell doc x P (omega arith)));
+    tells = λ s. first_told ∙ ap (λ m. first_score m.pairs) (sym (is_calm (steady_fit s)));
   }
-
-  pub scored_on : doc ≤ TERM → (doc ≡ TERM → ⊥) → Scored (means least step tell doc x E P room) (means least step tell doc x E P room) x
-  scored_on le ne = record {
-    shrinks = omega arith;
-    same = λ s. refl;
-    tells = λ s. sym (ap (λ m. first_score m.pairs) (is_calm (steady_fit s)) ∙ ap first_score (stands least step tell doc x P (omega (arith, ne))));
-  }
+    where
+      first_told : x ≡ first_score (standing least step tell doc x P)
+      first_told = ⊎_elim
+          (λ l. ap first_score (sym (stands least step tell doc x P l)))
+          (λ l. none (omega arith) ∙ ap first_score (sym (ended least step tell doc x P l)))
+          (cases_lt doc TERM)
 
   pub probed_over : (t : ℕ) (n : Meaning) (r : SeekDangerResult) → ProbedSteady t (means least step tell doc x E P room) n r → Probed t (means least step tell doc x E P room) n r
   probed_over t n r h = record {

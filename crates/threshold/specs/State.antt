@@ -11,6 +11,7 @@ use Rattle.live.specs.Lists.{threshold_list}
 use Rattle.live.specs.Views.{left, awaited}
 use Rattle.bank.specs.Places.{Rows}
 use Rattle.threshold.specs.Entries.{matches, Ready}
+use Rattle.threshold.specs.Stands.{unread, doc_at, score_at}
 use Rattle.threshold.specs.declared.queue.Queue.{Queue}
 use Rattle.threshold.specs.declared.disjunction.Disjunction.{Disjunction}
 
@@ -52,6 +53,18 @@ on doc unread = cond (nat_lt doc TERM || unread) 1 0
 abbrev pub room : {B : Type 0} → (B → Rows) → Queue B → ℕ
 room rows q = length q.chains + awaited rows q.sets
 
+-- whether the sets are yet to be read
+abbrev pub unread_of : {B C : Type 0} → Disjunction B C → Bool
+unread_of d = unread d.stand
+
+-- the current document, TERM where there is none
+abbrev pub doc_of : {B C : Type 0} → Disjunction B C → ℕ
+doc_of d = doc_at d.stand
+
+-- the score of the current document
+abbrev pub score_of : {B C : Type 0} → Disjunction B C → Float
+score_of d = score_at d.stand
+
 -- what the sets have left
 abbrev pub left_of : {B C : Type 0} → (B → Rows) → Disjunction B C → List Meaning
 left_of rows d = left rows d.queue.sets
@@ -59,12 +72,12 @@ left_of rows d = left rows d.queue.sets
 abbrev pub threshold_meaning :
     {B C : Type 0} → (B → Rows) → (C → Tally → Float → Tally) → (C → Tally → Float) → Disjunction B C → Meaning
 threshold_meaning rows take tell d =
-    means d.minimum (take d.combiner) (tell d.combiner) d.doc d.score d.queue.chains (left_of rows d)
-    (on d.doc d.unread + room rows d.queue)
+    means d.minimum (take d.combiner) (tell d.combiner) (doc_of d) (score_of d) d.queue.chains (left_of rows d)
+    (on (doc_of d) (unread_of d) + room rows d.queue)
 
 -- the greatest of the sets' guesses while any set has something left, or all are yet to be read
 abbrev pub guess_of : {B C : Type 0} → (B → List ℕ) → Disjunction B C → ℕ
-guess_of guesses d = cond (d.unread || nat_lt 0 (length d.queue.chains)) (greatest (guesses d.queue.sets.bank)) 0
+guess_of guesses d = cond (unread_of d || nat_lt 0 (length d.queue.chains)) (greatest (guesses d.queue.sets.bank)) 0
 
 -- ---- how far the sets are read
 

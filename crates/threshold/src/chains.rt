@@ -5,12 +5,13 @@ ghost use Rattle.threshold.specs.Entries.{Heaped, Tops};
 
 use heap::heap::{Top, peek, pop, push, replace_top};
 use heap::order::Entry;
+use live::live::MOST;
 use std::marker::Model;
 
 // The next ids of at most 32 sets, each with the place of its set: a heap with the lowest at the top.
 #[derive(Drop)]
 pub(crate) struct Chains {
-    entries: [Entry; 32],
+    entries: [Entry; MOST],
     len: usize,
 }
 
@@ -22,13 +23,14 @@ impl Model for Chains {
     ghost invariant = { λ c. Heaped c.entries c.len };
 }
 
+// What the heap's functions answer is dropped: with room for an entry, and with a top, none of them refuses.
 impl Chains {
     // No entry.
     pub(crate) fn new() -> Chains
         ensures { result ≡ [] }
     {
         Chains {
-            entries: [Entry { id: 0, place: 0 }; 32],
+            entries: [Entry { id: 0, place: 0 }; MOST],
             len: 0,
         }
     }

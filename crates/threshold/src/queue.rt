@@ -1,4 +1,5 @@
 ghost use Rattle.std.specs.Prelude.{◌≡◌, ℕ, ◌+◌, ◌<◌, ◌≤◌, false, [], length};
+ghost use Rattle.docset.specs.Meaning.{zero_score};
 ghost use Rattle.bank.specs.Places.{at};
 ghost use Rattle.live.specs.Sets.{empty, AllSteady};
 ghost use Rattle.threshold.specs.Entries.{Tops, Ready, Taken, Gathered};
@@ -34,7 +35,7 @@ pub(crate) struct Stand {
 }
 
 impl<B: Bank> Queue<B> {
-    // Nothing of the bank is ever asked.
+    // No set of the bank is ever asked for a document, a score or a step.
     pub(crate) fn idle(bank: B) -> Queue<B>
         ensures none { (k : ℕ) → at (left B.Bank.rows result.sets) k ≡ empty }
         ensures unqueued { result.chains ≡ [] }
@@ -101,6 +102,7 @@ impl<B: Bank> Queue<B> {
     pub(crate) fn next_group<C: ScoreCombiner>(&mut self, combiner: &C, minimum: usize) -> Stand
         ensures an_id { result.doc ≤ 2147483647 }
         ensures ends { result.doc ≡ 2147483647 → self.new.chains ≡ [] }
+        ensures scoreless { result.doc ≡ 2147483647 → result.score ≡ zero_score }
         ensures pays { on result.doc false + room B.Bank.rows self.new ≤ room B.Bank.rows self.old }
         ensures comes { Comes minimum (C.ScoreCombiner.taken combiner.now) (C.ScoreCombiner.told combiner.now) (left B.Bank.rows self.old.sets) (left B.Bank.rows self.new.sets) self.old.chains self.new.chains result.doc result.score }
     {

@@ -1,13 +1,13 @@
 ghost use Rattle.std.specs.Prelude.{◌≡◌, ℕ, suc, ◌<◌, true, false, ◌||◌, [], length, None, ◌≢◌, nat_lt};
 ghost use Rattle.docset.specs.Meaning.{Steady, calm};
-ghost use Rattle.docset.specs.Calls.{Moved, Sought};
+ghost use Rattle.docset.specs.Calls.{Told, Moved, Sought};
 ghost use Rattle.bank.specs.Places.{at};
 ghost use Rattle.live.specs.Sets.{AllSteady, passed};
 ghost use Rattle.live.specs.Lists.{threshold_list};
-ghost use Rattle.threshold.specs.State.{refusal_of, left_of, threshold_meaning, guess_of, read_to};
+ghost use Rattle.threshold.specs.State.{refusal_of, left_of, threshold_meaning, guess_of, read_to, unread_of, doc_of};
 
 use super::Disjunction;
-use crate::queue::Queue;
+use crate::queue::{Queue, Stand};
 use bank::bank::Bank;
 use combiner::score_combiner::ScoreCombiner;
 use docset::docset::{DocSet, SeekDangerResult, TERMINATED};
@@ -27,9 +27,10 @@ impl<B: Bank, C: ScoreCombiner> Disjunction<B, C> {
             queue: Queue::idle(bank),
             combiner,
             minimum,
-            unread: false,
-            doc: TERMINATED,
-            score: 0.0,
+            stand: Some(Stand {
+                doc: TERMINATED,
+                score: 0.0,
+            }),
         }
     }
 
@@ -39,8 +40,8 @@ impl<B: Bank, C: ScoreCombiner> Disjunction<B, C> {
         ensures refuses { result.0 ≡ refusal_of (length (B.Bank.rows bank).places) minimum }
         ensures empty { (refusal_of (length (B.Bank.rows bank).places) minimum ≢ None) → (⟦<Self as DocSet>⟧.meaning result.1 ≡ calm []) × (⟦<Self as DocSet>⟧.hint result.1 ≡ 0) × (⟦<Self as DocSet>⟧.price result.1 ≡ 0) }
         ensures list { refusal_of (length (B.Bank.rows bank).places) minimum ≡ None → AllSteady (B.Bank.rows bank).places → ⟦<Self as DocSet>⟧.meaning result.1 ≡ calm (threshold_list minimum (C.ScoreCombiner.taken combiner) (C.ScoreCombiner.told combiner) (B.Bank.rows bank).places) }
-        ensures waits { refusal_of (length (B.Bank.rows bank).places) minimum ≡ None → result.1.unread ≡ nat_lt (length (B.Bank.rows bank).places) minimum }
-        ensures reads { refusal_of (length (B.Bank.rows bank).places) minimum ≡ None → AllSteady (B.Bank.rows bank).places → (k : ℕ) → k < 32 → at (left_of B.Bank.rows result.1) k ≡ at (read_to result.1.unread result.1.doc (B.Bank.rows bank).places) k }
+        ensures waits { refusal_of (length (B.Bank.rows bank).places) minimum ≡ None → unread_of result.1 ≡ nat_lt (length (B.Bank.rows bank).places) minimum }
+        ensures reads { refusal_of (length (B.Bank.rows bank).places) minimum ≡ None → AllSteady (B.Bank.rows bank).places → (k : ℕ) → k < 32 → at (left_of B.Bank.rows result.1) k ≡ at (read_to (unread_of result.1) (doc_of result.1) (B.Bank.rows bank).places) k }
     {
         let count = bank.len();
         if count > MOST {
@@ -56,34 +57,25 @@ impl<B: Bank, C: ScoreCombiner> Disjunction<B, C> {
             );
         }
         let mut queue = Queue::new(bank, count);
-        if count < minimum {
-            let waiting = Disjunction {
-                queue,
-                combiner,
-                minimum,
-                unread: true,
-                doc: TERMINATED,
-                score: 0.0,
-            };
-            return (None, waiting);
-        }
-        let stand = queue.next_group(&combiner, minimum);
+        let stand = if count < minimum {
+            None
+        } else {
+            Some(queue.next_group(&combiner, minimum))
+        };
         let set = Disjunction {
             queue,
             combiner,
             minimum,
-            unread: false,
-            doc: stand.doc,
-            score: stand.score,
+            stand,
         };
         (None, set)
     }
 
     // Whether a set has something left, or all are yet to be read.
     fn is_open(&self) -> bool
-        ensures { result ≡ (self.now.unread || nat_lt 0 (length self.now.queue.chains)) }
+        ensures { result ≡ (unread_of self.now || nat_lt 0 (length self.now.queue.chains)) }
     {
-        self.unread || !self.queue.chains.is_empty()
+        self.stand.is_none() || !self.queue.chains.is_empty()
     }
 }
 
@@ -94,24 +86,25 @@ impl<B: Bank, C: ScoreCombiner> DocSet for Disjunction<B, C> {
 
     ghost price = { λ d. guess_of (λ b. (B.Bank.rows b).prices) d };
 
-    fn doc(&self) -> u32 {
-        self.doc
+    fn doc(&self) -> u32
+        ensures told { Told (⟦<Self as DocSet>⟧.meaning self.now) result }
+        ensures stands { doc_of self.now ≡ result }
+    {
+        self.stand.map_or(TERMINATED, |stand| stand.doc)
     }
 
     // Every set is read past the document that this comes to. At the end, with nothing unread, nothing moves.
     fn advance(&mut self) -> u32
         ensures moved { Moved (⟦<Self as DocSet>⟧.meaning self.old) (⟦<Self as DocSet>⟧.meaning self.new) result }
-        ensures read { self.new.unread ≡ false }
+        ensures read { unread_of self.new ≡ false }
         ensures reads { Steady (⟦<Self as DocSet>⟧.meaning self.old) → left_of B.Bank.rows self.new ≡ passed (suc result) (left_of B.Bank.rows self.old) }
-        ensures stands { self.new.doc ≡ result }
+        ensures stands { doc_of self.new ≡ result }
     {
-        if self.doc == TERMINATED && !self.unread {
+        if self.stand.is_some_and(|stand| stand.doc == TERMINATED) {
             return TERMINATED;
         }
         let stand = self.queue.next_group(&self.combiner, self.minimum);
-        self.unread = false;
-        self.doc = stand.doc;
-        self.score = stand.score;
+        self.stand = Some(stand);
         stand.doc
     }
 
@@ -119,10 +112,10 @@ impl<B: Bank, C: ScoreCombiner> DocSet for Disjunction<B, C> {
     // read.
     fn seek(&mut self, target: u32) -> u32
         ensures sought { Sought target (⟦<Self as DocSet>⟧.meaning self.old) (⟦<Self as DocSet>⟧.meaning self.new) result }
-        ensures waits { self.new.unread ≡ self.old.unread }
-        ensures reads { Steady (⟦<Self as DocSet>⟧.meaning self.old) → left_of B.Bank.rows self.new ≡ read_to self.old.unread result (left_of B.Bank.rows self.old) }
+        ensures waits { unread_of self.new ≡ unread_of self.old }
+        ensures reads { Steady (⟦<Self as DocSet>⟧.meaning self.old) → left_of B.Bank.rows self.new ≡ read_to (unread_of self.old) result (left_of B.Bank.rows self.old) }
     {
-        let mut doc = self.doc;
+        let mut doc = self.doc();
         while doc < target && doc != TERMINATED {
             doc = self.advance();
         }
@@ -154,10 +147,6 @@ impl<B: Bank, C: ScoreCombiner> DocSet for Disjunction<B, C> {
 
 impl<B: Bank, C: ScoreCombiner> Scorer for Disjunction<B, C> {
     fn score(&mut self) -> f32 {
-        if self.doc == TERMINATED {
-            0.0
-        } else {
-            self.score
-        }
+        self.stand.map_or(0.0, |stand| stand.score)
     }
 }
