@@ -39,10 +39,10 @@ pub data End : Type 0 where
   counted_all : End
 
 -- the end that a program names, with the words of its alive set
-abbrev pub end_of : Last → List ℕ → End
-end_of Keep ws = ongoing
-end_of Count ws = counted ws
-end_of CountIncludingDeleted ws = counted_all
+abbrev pub end_of : Last → End
+end_of Keep = ongoing
+end_of (Count alive) = counted alive.now.words.now
+end_of CountIncludingDeleted = counted_all
 
 -- the answer of the end, if it has one
 abbrev pub close : End → List Pair → List Answer

@@ -6,7 +6,6 @@ ghost use Rattle.logs.specs.Plain.{ongoing, end_of};
 
 use crate::call::{Answer, Call, Last};
 use crate::replay::ask;
-use docset::alive_bitset::AliveBitSet;
 use docset::docset::{DocSet, TERMINATED};
 use docset::scorer::Scorer;
 use std::num::f32_to_bits_with_nan;
@@ -82,16 +81,15 @@ pub fn agree_to_end<P: Scorer, Q: Scorer>(
     mut q: Q,
     calls: &[Call],
     last: Last,
-    alive_bitset: &AliveBitSet,
 ) -> bool
-    ensures { (i : Meaning) × (j : Meaning) × Agreed (P.DocSet.meaning p) (Q.DocSet.meaning q) i j calls.now (end_of last alive_bitset.now.words.now) result }
+    ensures { (i : Meaning) × (j : Meaning) × Agreed (P.DocSet.meaning p) (Q.DocSet.meaning q) i j calls.now (end_of last.entry) result }
 {
     if !agree(&mut p, &mut q, calls) {
         return false;
     }
     match last {
         Last::Keep => true,
-        Last::Count => p.count(alive_bitset) == q.count(alive_bitset),
+        Last::Count(alive_bitset) => p.count(alive_bitset) == q.count(alive_bitset),
         Last::CountIncludingDeleted => p.count_including_deleted() == q.count_including_deleted(),
     }
 }

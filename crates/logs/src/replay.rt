@@ -6,7 +6,6 @@ ghost use Rattle.logs.specs.Plain.{ongoing, end_of};
 ghost use Rattle.logs.specs.Runs.{Asked, Replayed};
 
 use crate::call::{Answer, Call, Last};
-use docset::alive_bitset::AliveBitSet;
 use docset::docset::{DocSet, SeekDangerResult};
 use docset::scorer::Scorer;
 use std::alloc::{AllocError, Global};
@@ -68,14 +67,13 @@ pub fn replay_to_end<S: Scorer>(
     mut set: S,
     calls: &[Call],
     last: Last,
-    alive_bitset: &AliveBitSet,
 ) -> Result<Vec<Answer>, AllocError>
-    ensures { IfOk result (λ answers. ((n : Meaning) × Replayed (S.DocSet.meaning set) n calls.now (end_of last alive_bitset.now.words.now) answers.items)) }
+    ensures { IfOk result (λ answers. ((n : Meaning) × Replayed (S.DocSet.meaning set) n calls.now (end_of last.entry) answers.items)) }
 {
     let mut answers = replay(heap, &mut set, calls)?;
     let number = match last {
         Last::Keep => return Ok(answers),
-        Last::Count => set.count(alive_bitset),
+        Last::Count(alive_bitset) => set.count(alive_bitset),
         Last::CountIncludingDeleted => set.count_including_deleted(),
     };
     answers.push(Answer::Number(number))?;

@@ -7,7 +7,7 @@ pub returns-then-not-agree : goal.returns-then-not-agree
 returns-then-not-agree g c = (
   g.P.DocSet.meaning c.agree.new.p,
   g.Q.DocSet.meaning c.agree.new.q,
-  end_not _ _ _ _ _ (end_of c.args.last c.args.alive_bitset.now.words.now) c.if-not-agree.ensures,
+  end_not _ _ _ _ _ (end_of c.args.last) c.if-not-agree.ensures,
 )
 
 pub returns-in-Keep : goal.returns-in-Keep
@@ -21,7 +21,7 @@ pub returns-in-Count : goal.returns-in-Count
 returns-in-Count g c = (
   g.P.DocSet.meaning c.agree.new.p,
   g.Q.DocSet.meaning c.agree.new.q,
-  simp c.in-Count.is (end_counts _ _ _ _ _ (counted c.args.alive_bitset.now.words.now) c.count.result c.count-in-Count.result c.if-not-agree.ensures (_, refl, c.count.ensures) (_, refl, c.count-in-Count.ensures)),
+  simp c.in-Count.is (end_counts _ _ _ _ _ (counted c.in-Count.alive_bitset.now.words.now) c.count.result c.count-in-Count.result c.if-not-agree.ensures (_, refl, c.count.ensures) (_, refl, c.count-in-Count.ensures)),
 )
 
 pub returns-in-CountIncludingDeleted : goal.returns-in-CountIncludingDeleted

@@ -13,7 +13,7 @@ returns g c = (
   elim c.match-last.branch [
     | in-Count w ↦
         simp w.in-Count.is
-        (replayed_end _ _ _ (counted c.args.alive_bitset.now.words.now) (vec_items c.in_ok-answers.answers) _ c.match-last.number
+        (replayed_end _ _ _ (counted w.in-Count.alive_bitset.now.words.now) (vec_items c.in_ok-answers.answers) _ c.match-last.number
         c.in_ok-answers.ensures (search rules) (c.match-last.number, refl, rw w.number-is w.count-number.ensures))
     | in-CountIncludingDeleted w ↦
         simp w.in-CountIncludingDeleted.is
