@@ -15,10 +15,24 @@ use docset::scorer::Scorer;
 use leaves::all_scorer::AllScorer;
 use leaves::bitset::BitSetDocSet;
 use leaves::vec_docset::VecDocSet;
-use logs::call::Last;
+use logs::call::{Answer, Last};
 use logs::replay::replay_to_end;
 use print::{Answered, Refused};
 use read::{End, Leaf, Script, read_leaf, read_script};
+use std::alloc::{AllocError, Global};
+
+// What a set answers to a script.
+fn answers<S: Scorer>(heap: Global, set: S, script: &Script) -> Result<Vec<Answer>, AllocError> {
+    let calls = script.calls.as_slice();
+    match &script.end {
+        End::Open => replay_to_end(heap, set, calls, Last::Keep),
+        End::Alive(words) => {
+            let alive = AliveBitSet::new(words.as_slice());
+            replay_to_end(heap, set, calls, Last::Count(&alive))
+        }
+        End::All => replay_to_end(heap, set, calls, Last::CountIncludingDeleted),
+    }
+}
 
 fn play<S: Scorer>(
     rt: &HostRuntime,
@@ -29,16 +43,7 @@ fn play<S: Scorer>(
     if let Some(refusal) = refusal {
         print!(rt; "{}, ", Refused(refusal))?;
     }
-    let alive;
-    let last = match &script.end {
-        End::Open => Last::Keep,
-        End::Alive(words) => {
-            alive = AliveBitSet::new(words.as_slice());
-            Last::Count(&alive)
-        }
-        End::All => Last::CountIncludingDeleted,
-    };
-    let answers = replay_to_end(rt.alloc(), set, script.calls.as_slice(), last)?;
+    let answers = answers(rt.alloc(), set, script)?;
     for answer in answers.as_slice() {
         print!(rt; "{}, ", Answered(answer))?;
     }
