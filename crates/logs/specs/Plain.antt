@@ -1,5 +1,6 @@
 -- A plain list of pairs takes the same calls as a set, and answers them as the rules say of a steady one. It has no mark.
-use Rattle.std.specs.Prelude.{ℕ, Bool, true, false, List, [], ◌∷◌, ◌++◌, Option, Some, None, length, take, drop}
+use Rattle.std.specs.Prelude.{ℕ, Bool, true, false, List, [], ◌∷◌, ◌++◌, Option, map, length, take, drop}
+use Rattle.std.specs.Option.{option_to_list}
 use Rattle.docset.specs.Meaning.{Pair, ids, first_id, first_score, rest, from, has, probed}
 use Rattle.docset.specs.Bits.{count_alive}
 use Rattle.logs.specs.declared.call.Call.{Call}
@@ -52,8 +53,7 @@ close counted_all ps = Number (length ps) ∷ []
 
 -- the answers that a log has of its end: a count, or none
 abbrev pub last_answer : Option ℕ → List Answer
-last_answer None = []
-last_answer (Some n) = Number n ∷ []
+last_answer r = map Number (option_to_list r)
 
 -- the answers to the calls, in turn, and to the end
 abbrev pub log : List Pair → List Call → End → List Answer

@@ -76,12 +76,7 @@ pub fn agree<P: Scorer, Q: Scorer>(p: &mut P, q: &mut Q, calls: &[Call]) -> bool
 }
 
 // As `agree`, and where no answer differs the last call too, which takes both sets.
-pub fn agree_to_end<P: Scorer, Q: Scorer>(
-    mut p: P,
-    mut q: Q,
-    calls: &[Call],
-    last: Last,
-) -> bool
+pub fn agree_to_end<P: Scorer, Q: Scorer>(mut p: P, mut q: Q, calls: &[Call], last: Last) -> bool
     ensures { (i : Meaning) × (j : Meaning) × Agreed (P.DocSet.meaning p) (Q.DocSet.meaning q) i j calls.now (end_of last.entry) result }
 {
     agree(&mut p, &mut q, calls) && count_at_end(p, last) == count_at_end(q, last)
