@@ -12,18 +12,17 @@ use std::cell::Cell;
 #[derive(Drop)]
 struct Record {
     times: Cell<u32>,
-    last: Cell<u32>,
+    last: Cell<Option<u32>>,
     fell: Cell<bool>,
 }
 
 impl Record {
     fn note(&self, doc: u32) {
-        let times = self.times.get();
-        if times > 0 && doc <= self.last.get() {
+        if self.last.get().is_some_and(|last| doc <= last) {
             self.fell.set(true);
         }
-        self.times.set(times.saturating_add(1));
-        self.last.set(doc);
+        self.times.set(self.times.get().saturating_add(1));
+        self.last.set(Some(doc));
     }
 }
 
@@ -43,7 +42,7 @@ impl<'a, E: ExclusionSet> ExclusionSet for Recorded<'a, E> {
     }
 }
 
-// Seeks at, below and above the current document, a probe and advances: the last id that each answers.
+// Seeks at, below and above the current document, a probe and advances: the id that the last advance answers.
 fn walk<S: DocSet>(set: &mut S) -> u32 {
     set.seek(1);
     set.seek(0);
@@ -60,7 +59,7 @@ fn walk<S: DocSet>(set: &mut S) -> u32 {
 fn an_exclusion_is_asked_once_for_a_document(rt: HostRuntime) {
     let record = Record {
         times: Cell::new(0),
-        last: Cell::new(0),
+        last: Cell::new(None),
         fell: Cell::new(false),
     };
     let (_, seen) = VecDocSet::new(&[2, 5]);

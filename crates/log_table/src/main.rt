@@ -8,17 +8,31 @@
 mod print;
 mod read;
 
-use anyhow::anyhow;
+use anyhow::Context;
 use docset::alive_bitset::AliveBitSet;
-use docset::docset::DocSet;
 use docset::refusal::Refusal;
 use docset::scorer::Scorer;
 use leaves::all_scorer::AllScorer;
 use leaves::bitset::BitSetDocSet;
 use leaves::vec_docset::VecDocSet;
+use logs::call::{Answer, Last};
 use logs::replay::replay_to_end;
 use print::{Answered, Refused};
-use read::{Leaf, Script, read_leaf, read_script};
+use read::{End, Leaf, Script, read_leaf, read_script};
+use std::alloc::{AllocError, Global};
+
+// What a set answers to a script.
+fn answers<S: Scorer>(heap: Global, set: S, script: &Script) -> Result<Vec<Answer>, AllocError> {
+    let calls = script.calls.as_slice();
+    match &script.end {
+        End::Open => replay_to_end(heap, set, calls, Last::Keep),
+        End::Alive(words) => {
+            let alive = AliveBitSet::new(words.as_slice());
+            replay_to_end(heap, set, calls, Last::Count(&alive))
+        }
+        End::All => replay_to_end(heap, set, calls, Last::CountIncludingDeleted),
+    }
+}
 
 fn play<S: Scorer>(
     rt: &HostRuntime,
@@ -29,14 +43,7 @@ fn play<S: Scorer>(
     if let Some(refusal) = refusal {
         print!(rt; "{}, ", Refused(refusal))?;
     }
-    let alive = AliveBitSet::new(script.alive.as_slice());
-    let answers = replay_to_end(
-        rt.alloc(),
-        set,
-        script.calls.as_slice(),
-        script.last,
-        &alive,
-    )?;
+    let answers = answers(rt.alloc(), set, script)?;
     for answer in answers.as_slice() {
         print!(rt; "{}, ", Answered(answer))?;
     }
@@ -45,9 +52,7 @@ fn play<S: Scorer>(
 }
 
 fn play_line(rt: &HostRuntime, line: &str) -> anyhow::Result<()> {
-    let Some((leaf, calls)) = line.split_once(';') else {
-        return Err(anyhow!("a line without calls"));
-    };
+    let (leaf, calls) = line.split_once(';').context("a line without calls")?;
     let leaf = read_leaf(rt.alloc(), leaf)?;
     let script = read_script(rt.alloc(), calls)?;
     match leaf {

@@ -322,6 +322,6 @@ module _ (m n : Meaning) (s : Steady m) (t : Steady n) (a : Rising 0 m.pairs) (b
       }
 
 pub replayed_end :
-    (m n : Meaning) (cs : List Call) (z : End) (xs zs : List Answer) (r : ℕ) → Replayed m n cs ongoing xs →
-    zs ≡ xs ++ Number r ∷ [] → Ended z n (Number r ∷ []) → Replayed m n cs z zs
-replayed_end m n cs z xs zs r h e k = replayed m n cs z zs (rw e (runs_end m n cs z xs (Number r ∷ []) h.runs k))
+    (m n : Meaning) (cs : List Call) (z : End) (xs ys zs : List Answer) → Replayed m n cs ongoing xs →
+    zs ≡ xs ++ ys → Ended z n ys → Replayed m n cs z zs
+replayed_end m n cs z xs ys zs h e k = replayed m n cs z zs (rw e (runs_end m n cs z xs ys h.runs k))

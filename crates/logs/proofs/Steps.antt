@@ -1,12 +1,13 @@
 -- Two sets that are asked the same, answer by answer.
-use Rattle.std.proofs.Common.{◌≡◌, ℕ, zero, suc, ◌+◌, ◌<◌, Bool, true, false, eqb, List, [], ◌∷◌, ◌++◌, length, get_or, take, sym, refl, ◌∙◌, subst, inl, inr, ⊎_elim, arith}
-use Rattle.std.proofs.lemmas.List.{take_all}
+use Rattle.std.proofs.Common.{◌≡◌, ℕ, zero, suc, ◌+◌, ◌<◌, Bool, true, false, eqb, List, [], ◌∷◌, ◌++◌, length, get_or, take, Option, Some, None, sym, refl, ◌∙◌, subst, inl, inr, ⊎_elim, arith}
+use Rattle.std.proofs.lemmas.List.{take_all, append_cancel_left}
 use Rattle.std.proofs.lemmas.Bool.{cases_eq, eq-eqb, ne_eqb}
+use Rattle.std.specs.Option.{option_eq}
 use Rattle.docset.specs.Meaning.{Meaning, Pair, Steady}
 use Rattle.logs.specs.declared.call.Call.{Call}
 use Rattle.logs.specs.declared.call.Answer.{Answer}
 use Rattle.logs.specs.declared.call.Answer.TheVariants.{Number}
-use Rattle.logs.specs.Plain.{after, reply, End, ongoing, log, missed, MayEnd, LegalFrom, Legal, LegalOn}
+use Rattle.logs.specs.Plain.{after, reply, End, ongoing, last_answer, log, missed, MayEnd, LegalFrom, Legal, LegalOn}
 use Rattle.logs.specs.Runs.{Promise, Ended, Runs, Begins, Agreed}
 use Rattle.logs.proofs.Laws.{plainly, plainly_on, runs_more, runs_end}
 
@@ -79,10 +80,6 @@ agreed_not m n i j cs z ds y xs ys b r q ne =
 abbrev pub Agreeing : Meaning → Meaning → Meaning → Meaning → List Call → ℕ → Type 0
 Agreeing m n i j cs k = (xs : List Answer) × Runs m (take k cs) ongoing xs i × Runs n (take k cs) ongoing xs j
 
-ends_alike : (xs : List Answer) (x y : Answer) → xs ++ x ∷ [] ≡ xs ++ y ∷ [] → x ≡ y
-ends_alike [] x y e = cc
-ends_alike (v ∷ vs) x y e = ends_alike vs x y (cc)
-
 module _ (m n i j : Meaning) (cs : List Call) (k : ℕ) (a : Agreeing m n i j cs k) (d : Call) (i' j' : Meaning) (x y : Answer) (h : k < length cs) (u : Promise (get_or cs k d) i i' x) (v : Promise (get_or cs k d) j j' y) where
   first_more : Runs m (take (k + 1) cs) ongoing (a.0 ++ x ∷ []) i'
   first_more = runs_more m i i' cs k d a.0 (a.0 ++ x ∷ []) x h refl a.1 u
@@ -97,7 +94,7 @@ module _ (m n i j : Meaning) (cs : List Call) (k : ℕ) (a : Agreeing m n i j cs
   pub agree_stops : (x ≡ y → ⊥) → Agreed m n i' j' cs ongoing false
   agree_stops ne =
       agreed_not m n i' j' cs ongoing (take (k + 1) cs) ongoing (a.0 ++ x ∷ []) (a.0 ++ y ∷ []) (inl (k + 1, refl, refl))
-      first_more second_more (λ e. ne (ends_alike a.0 x y e))
+      first_more second_more (λ e. let f = append_cancel_left a.0 (x ∷ []) (y ∷ []) e in ne (cc))
 
 pub agree_all : (m n i j : Meaning) (cs : List Call) (k : ℕ) → Agreeing m n i j cs k → k ≡ length cs → Agreed m n i j cs ongoing true
 agree_all m n i j cs k a e =
@@ -115,19 +112,28 @@ end_not m n i j cs z h =
     let b = h.differ refl in
     agreed_not m n i j cs z b.0 b.1 b.2 b.3 (begins_end b.0 cs b.1 z b.4) b.5 b.6 b.7
 
-pub end_counts :
-    (m n i j : Meaning) (cs : List Call) (z : End) (x y : ℕ) → Agreed m n i j cs ongoing true →
-    Ended z i (Number x ∷ []) → Ended z j (Number y ∷ []) → Agreed m n i j cs z (eqb x y)
-end_counts m n i j cs z x y h u v =
-    let a = h.same refl in
-    let p = runs_end m i cs z a.0 (Number x ∷ []) a.1 u in
-    let q = runs_end n j cs z a.0 (Number y ∷ []) a.2 v in
-    ⊎_elim {C = Agreed m n i j cs z (eqb x y)}
-    (λ e.
-    subst (λ (b : Bool). Agreed m n i j cs z b) (sym (eq-eqb x y e))
-    (agreed_same m n i j cs z (a.0 ++ Number x ∷ []) p (subst (λ (w : ℕ). Runs n cs z (a.0 ++ Number w ∷ []) j) (sym e) q)))
-    (λ ne.
-    subst (λ (b : Bool). Agreed m n i j cs z b) (sym (ne_eqb x y ne))
-    (agreed_not m n i j cs z cs z (a.0 ++ Number x ∷ []) (a.0 ++ Number y ∷ []) (inr (refl, refl)) p q
-    (λ e. ne (let f = ends_alike a.0 (Number x) (Number y) e in cc))))
-    (cases_eq x y)
+module _ (m n i j : Meaning) (cs : List Call) (z : End) (h : Agreed m n i j cs ongoing true) where
+  end_same : (xs : List Answer) → Ended z i xs → Ended z j xs → Agreed m n i j cs z true
+  end_same xs u v =
+      let a = h.same refl in
+      agreed_same m n i j cs z (a.0 ++ xs) (runs_end m i cs z a.0 xs a.1 u) (runs_end n j cs z a.0 xs a.2 v)
+
+  end_differs : (xs ys : List Answer) → Ended z i xs → Ended z j ys → (xs ≡ ys → ⊥) → Agreed m n i j cs z false
+  end_differs xs ys u v ne =
+      let a = h.same refl in
+      agreed_not m n i j cs z cs z (a.0 ++ xs) (a.0 ++ ys) (inr (refl, refl)) (runs_end m i cs z a.0 xs a.1 u)
+      (runs_end n j cs z a.0 ys a.2 v) (λ e. ne (append_cancel_left a.0 xs ys e))
+
+  pub end_counts : (x y : Option ℕ) → Ended z i (last_answer x) → Ended z j (last_answer y) → Agreed m n i j cs z (option_eq eqb x y)
+  end_counts None None u v = end_same [] u v
+  end_counts None (Some y) u v = end_differs [] (Number y ∷ []) u v (λ e. cc)
+  end_counts (Some x) None u v = end_differs (Number x ∷ []) [] u v (λ e. cc)
+  end_counts (Some x) (Some y) u v =
+      ⊎_elim {C = Agreed m n i j cs z (eqb x y)}
+      (λ e.
+      subst (λ (b : Bool). Agreed m n i j cs z b) (sym (eq-eqb x y e))
+      (end_same (Number x ∷ []) u (subst (λ (w : ℕ). Ended z j (Number w ∷ [])) (sym e) v)))
+      (λ ne.
+      subst (λ (b : Bool). Agreed m n i j cs z b) (sym (ne_eqb x y ne))
+      (end_differs (Number x ∷ []) (Number y ∷ []) u v (λ e. ne (cc))))
+      (cases_eq x y)

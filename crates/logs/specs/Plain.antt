@@ -1,5 +1,6 @@
 -- A plain list of pairs takes the same calls as a set, and answers them as the rules say of a steady one. It has no mark.
-use Rattle.std.specs.Prelude.{ℕ, Bool, true, false, List, [], ◌∷◌, ◌++◌, length, take, drop}
+use Rattle.std.specs.Prelude.{ℕ, Bool, true, false, List, [], ◌∷◌, ◌++◌, Option, map, length, take, drop}
+use Rattle.std.specs.Option.{option_to_list}
 use Rattle.docset.specs.Meaning.{Pair, ids, first_id, first_score, rest, from, has, probed}
 use Rattle.docset.specs.Bits.{count_alive}
 use Rattle.logs.specs.declared.call.Call.{Call}
@@ -39,16 +40,20 @@ pub data End : Type 0 where
   counted_all : End
 
 -- the end that a program names, with the words of its alive set
-abbrev pub end_of : Last → List ℕ → End
-end_of Keep ws = ongoing
-end_of Count ws = counted ws
-end_of CountIncludingDeleted ws = counted_all
+abbrev pub end_of : Last → End
+end_of Keep = ongoing
+end_of (Count alive) = counted alive.now.words.now
+end_of CountIncludingDeleted = counted_all
 
 -- the answer of the end, if it has one
 abbrev pub close : End → List Pair → List Answer
 close ongoing ps = []
 close (counted ws) ps = Number (count_alive ws ps) ∷ []
 close counted_all ps = Number (length ps) ∷ []
+
+-- the answers that a log has of its end: a count, or none
+abbrev pub last_answer : Option ℕ → List Answer
+last_answer r = map Number (option_to_list r)
 
 -- the answers to the calls, in turn, and to the end
 abbrev pub log : List Pair → List Call → End → List Answer

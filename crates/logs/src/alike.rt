@@ -5,8 +5,7 @@ ghost use Rattle.logs.specs.Runs.{◌⟺◌, ToldApart, Alike, Agreed};
 ghost use Rattle.logs.specs.Plain.{ongoing, end_of};
 
 use crate::call::{Answer, Call, Last};
-use crate::replay::ask;
-use docset::alive_bitset::AliveBitSet;
+use crate::replay::{ask, count_at_end};
 use docset::docset::{DocSet, TERMINATED};
 use docset::scorer::Scorer;
 use std::num::f32_to_bits_with_nan;
@@ -77,21 +76,8 @@ pub fn agree<P: Scorer, Q: Scorer>(p: &mut P, q: &mut Q, calls: &[Call]) -> bool
 }
 
 // As `agree`, and where no answer differs the last call too, which takes both sets.
-pub fn agree_to_end<P: Scorer, Q: Scorer>(
-    mut p: P,
-    mut q: Q,
-    calls: &[Call],
-    last: Last,
-    alive_bitset: &AliveBitSet,
-) -> bool
-    ensures { (i : Meaning) × (j : Meaning) × Agreed (P.DocSet.meaning p) (Q.DocSet.meaning q) i j calls.now (end_of last alive_bitset.now.words.now) result }
+pub fn agree_to_end<P: Scorer, Q: Scorer>(mut p: P, mut q: Q, calls: &[Call], last: Last) -> bool
+    ensures { (i : Meaning) × (j : Meaning) × Agreed (P.DocSet.meaning p) (Q.DocSet.meaning q) i j calls.now (end_of last.entry) result }
 {
-    if !agree(&mut p, &mut q, calls) {
-        return false;
-    }
-    match last {
-        Last::Keep => true,
-        Last::Count => p.count(alive_bitset) == q.count(alive_bitset),
-        Last::CountIncludingDeleted => p.count_including_deleted() == q.count_including_deleted(),
-    }
+    agree(&mut p, &mut q, calls) && count_at_end(p, last) == count_at_end(q, last)
 }

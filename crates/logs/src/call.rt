@@ -1,3 +1,4 @@
+use docset::alive_bitset::AliveBitSet;
 use docset::docset::COLLECT_BLOCK_BUFFER_LEN;
 
 // A call on a set, with all that it is given. A count is no such call: it takes the set, so that it stands last in a log.
@@ -16,11 +17,12 @@ pub enum Call {
     Block([u32; COLLECT_BLOCK_BUFFER_LEN]),
 }
 
-// How a log ends: the set is kept, or a count takes it. It holds no alive set, so that a log that is kept borrows nothing.
+// How a log ends: the set is kept, or a count takes it.
 #[derive(Clone, Copy)]
-pub enum Last {
+pub enum Last<'a> {
     Keep,
-    Count,
+    // Of the ids that are alive in this set.
+    Count(&'a AliveBitSet<'a>),
     CountIncludingDeleted,
 }
 

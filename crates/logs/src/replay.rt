@@ -2,11 +2,10 @@
 // and what is left is the plain list; on any set it is safe and ends.
 ghost use Rattle.std.specs.Prelude.{◌≡◌, min, length, take, drop, IfOk, MatchResult};
 ghost use Rattle.docset.specs.Meaning.{Meaning};
-ghost use Rattle.logs.specs.Plain.{ongoing, end_of};
-ghost use Rattle.logs.specs.Runs.{Asked, Replayed};
+ghost use Rattle.logs.specs.Plain.{ongoing, end_of, last_answer};
+ghost use Rattle.logs.specs.Runs.{Ended, Asked, Replayed};
 
 use crate::call::{Answer, Call, Last};
-use docset::alive_bitset::AliveBitSet;
 use docset::docset::{DocSet, SeekDangerResult};
 use docset::scorer::Scorer;
 use std::alloc::{AllocError, Global};
@@ -62,22 +61,29 @@ pub fn replay_into<S: Scorer>(set: &mut S, calls: &[Call], answers: &mut [Answer
     made
 }
 
+// Makes the last call, which takes the set: the count, where a log ends with one.
+pub fn count_at_end<S: DocSet>(set: S, last: Last) -> Option<u32>
+    ensures { Ended (end_of last.entry) (S.DocSet.meaning set) (last_answer result) }
+{
+    match last {
+        Last::Keep => None,
+        Last::Count(alive_bitset) => Some(set.count(alive_bitset)),
+        Last::CountIncludingDeleted => Some(set.count_including_deleted()),
+    }
+}
+
 // Makes the calls in turn, and then the last one, which takes the set. The set is gone also where there is no memory for the answers.
 pub fn replay_to_end<S: Scorer>(
     heap: Global,
     mut set: S,
     calls: &[Call],
     last: Last,
-    alive_bitset: &AliveBitSet,
 ) -> Result<Vec<Answer>, AllocError>
-    ensures { IfOk result (λ answers. ((n : Meaning) × Replayed (S.DocSet.meaning set) n calls.now (end_of last alive_bitset.now.words.now) answers.items)) }
+    ensures { IfOk result (λ answers. ((n : Meaning) × Replayed (S.DocSet.meaning set) n calls.now (end_of last.entry) answers.items)) }
 {
     let mut answers = replay(heap, &mut set, calls)?;
-    let number = match last {
-        Last::Keep => return Ok(answers),
-        Last::Count => set.count(alive_bitset),
-        Last::CountIncludingDeleted => set.count_including_deleted(),
-    };
-    answers.push(Answer::Number(number))?;
+    if let Some(number) = count_at_end(set, last) {
+        answers.push(Answer::Number(number))?;
+    }
     Ok(answers)
 }

@@ -105,23 +105,20 @@ fn the_hint_is_of_what_has_not_ended(rt: HostRuntime) {
     assert_eq!(rt; (set.size_hint(), set.cost()), (0, 0));
 }
 
-// So many sets, each with the one id 0.
-fn many(heap: Global, count: usize) -> Result<(u32, f32), AllocError> {
+// Of the union of so many sets, each with the one id 0: why it is refused, and its score.
+fn many(heap: Global, count: usize) -> Result<(Option<Refusal>, f32), AllocError> {
     let mut bank = Vec::new(heap);
     for _ in 0..count {
         let (_, all) = AllScorer::new(1);
         bank.push(all)?;
     }
     let (refusal, mut set) = BufferedUnionScorer::build(bank, SumCombiner, 8);
-    match refusal {
-        Some(refusal) => Ok((refusal.number(), set.score())),
-        None => Ok((0, set.score())),
-    }
+    Ok((refusal, set.score()))
 }
 
 #[test]
 fn at_most_32_sets(rt: HostRuntime) -> Result<(), Fail> {
-    assert_eq!(rt; many(rt.alloc(), 32)?, (0, 32.0));
-    assert_eq!(rt; many(rt.alloc(), 33)?, (6, 0.0));
+    assert_eq!(rt; many(rt.alloc(), 32)?, (None, 32.0));
+    assert_eq!(rt; many(rt.alloc(), 33)?, (Some(Refusal::TooManySets), 0.0));
     Ok(())
 }

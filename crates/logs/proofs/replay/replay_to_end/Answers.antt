@@ -1,23 +1,19 @@
-use Rattle.std.proofs.Common.{vec_items, refl, rules}
-use Rattle.logs.specs.Plain.{counted, counted_all}
+use Rattle.std.proofs.Common.{[], ◌∷◌, vec_items, rules}
+use Rattle.logs.specs.declared.call.Answer.TheVariants.{Number}
+use Rattle.logs.specs.Plain.{end_of}
 use Rattle.logs.proofs.Laws.{replayed_end}
 use Rattle.logs.proofs.replay.replay_to_end.Goals as goal
-use Rattle.logs.proofs.replay.replay_to_end.Goals.{in-Count, in-CountIncludingDeleted}
-
-pub returns-in-Keep : goal.returns-in-Keep
-returns-in-Keep g c = (g.S.DocSet.meaning c.replay.new.set, simp c.in-Keep.is c.in_ok-answers.ensures)
+use Rattle.logs.proofs.replay.replay_to_end.Goals.{in-Some+in_ok-push, in_default}
 
 pub returns : goal.returns
 returns g c = (
   g.S.DocSet.meaning c.replay.new.set,
-  elim c.match-last.branch [
-    | in-Count w ↦
-        simp w.in-Count.is
-        (replayed_end _ _ _ (counted c.args.alive_bitset.now.words.now) (vec_items c.in_ok-answers.answers) _ c.match-last.number
-        c.in_ok-answers.ensures (search rules) (c.match-last.number, refl, rw w.number-is w.count-number.ensures))
-    | in-CountIncludingDeleted w ↦
-        simp w.in-CountIncludingDeleted.is
-        (replayed_end _ _ _ counted_all (vec_items c.in_ok-answers.answers) _ c.match-last.number c.in_ok-answers.ensures
-        (search rules) (c.match-last.number, refl, rw w.number-is w.count_including_deleted-number.ensures))
+  elim c.match-count_at_end.branch [
+    | in-Some+in_ok-push w ↦
+        replayed_end _ _ _ (end_of c.args.last) (vec_items c.in_ok-answers.answers) (Number w.in-Some.number ∷ []) _
+        c.in_ok-answers.ensures (search rules) w.in-Some.ensures
+    | in_default w ↦
+        replayed_end _ _ _ (end_of c.args.last) (vec_items c.in_ok-answers.answers) [] _
+        c.in_ok-answers.ensures (search rules) w.in_default.ensures
   ],
 )
