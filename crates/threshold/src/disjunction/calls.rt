@@ -14,7 +14,7 @@ use docset::docset::{DocSet, SeekDangerResult, TERMINATED};
 use docset::refusal::Refusal;
 use docset::scorer::Scorer;
 
-// How many sets a threshold takes at most.
+// How many sets a threshold takes at most: as many as `Live` asks.
 const MOST: usize = live::live::MOST;
 
 impl<B: Bank, C: ScoreCombiner> Disjunction<B, C> {
