@@ -6,7 +6,7 @@ ghost use Rattle.card.specs.Text.{fields};
 ghost use Rattle.card.specs.Faults.{Reads};
 ghost use Rattle.card.specs.Statements.{word_of, weight_in, count_in, seen_in, topic_in, plain, said, meant};
 
-use crate::card::Topic;
+use crate::card::{MAX_PICK, MAX_TOPICS, Topic};
 use crate::fault::CardFault;
 use crate::text::{read_ids, read_name, read_number, read_weight, split_field, split_once};
 use std::alloc::{AllocError, Global};
@@ -118,7 +118,7 @@ impl Rest<'_> {
     }
 
     // What stands behind `pick` or `at-least`: a number from 1 to `most`.
-    fn count(&self, most: u32) -> Result<usize, CardFault>
+    fn count(&self, most: usize) -> Result<usize, CardFault>
         ensures { result ≡ count_in self.now.line most (fields self.now.front.now) (option_copied self.now.ids) }
     {
         let line = self.line;
@@ -129,11 +129,11 @@ impl Rest<'_> {
         if split_field(rest).is_some() {
             return Err(CardFault::BadForm(line));
         }
-        let count = read_number(field).ok_or(CardFault::BadNumber(line))?;
+        let count = read_number(field).ok_or(CardFault::BadNumber(line))? as usize;
         if count < 1 || count > most {
             return Err(CardFault::OutOfRange(line));
         }
-        Ok(count as usize)
+        Ok(count)
     }
 }
 
@@ -156,7 +156,7 @@ pub fn read_statement(heap: Global, line: usize, bytes: &[u8]) -> Result<Stateme
         Word::Topic => rest.topic(heap).map(Statement::Topic),
         Word::Bonus => rest.topic(heap).map(Statement::Bonus),
         Word::Seen => rest.seen(heap).map(Statement::Seen),
-        Word::Pick => rest.count(64).map(Statement::Pick),
-        Word::AtLeast => rest.count(32).map(Statement::AtLeast),
+        Word::Pick => rest.count(MAX_PICK).map(Statement::Pick),
+        Word::AtLeast => rest.count(MAX_TOPICS).map(Statement::AtLeast),
     }
 }
