@@ -25,12 +25,13 @@ use std::num::nearest_u32_to_f32;
 // The most topics that a card may have, so also the most in which an exercise can be.
 pub const MAX_TOPICS: usize = 32;
 
-// How many to show of a topic, at most and where a card does not say.
+// The most exercises that may be shown of a topic.
 pub const MAX_PICK: usize = 64;
 
+// How many are shown where a card does not say.
 const DEFAULT_PICK: usize = 10;
 
-// In how many topics an exercise must be, where a card does not say.
+// In how many topics an exercise must be where a card does not say.
 const DEFAULT_AT_LEAST: usize = 1;
 
 // The exercises of one topic, as they stand in their line.

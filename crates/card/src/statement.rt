@@ -4,7 +4,7 @@ ghost use Rattle.std.specs.Option.{option_copied, ok_or};
 ghost use Rattle.card.specs.declared.fault.CardFault.TheVariants.{OutOfMemory};
 ghost use Rattle.card.specs.Text.{fields};
 ghost use Rattle.card.specs.Faults.{Reads};
-ghost use Rattle.card.specs.Statements.{word_of, weight_in, count_in, seen_in, topic_in, plain, said, meant};
+ghost use Rattle.card.specs.Statements.{word_of, ended, weight_in, count_in, seen_in, topic_in, plain, said, meant};
 
 use crate::card::{MAX_PICK, MAX_TOPICS, Topic};
 use crate::fault::CardFault;
@@ -63,6 +63,16 @@ fn read_at<T: Drop>(
     read.map_err(|_| CardFault::OutOfMemory(line))?.ok_or(fault)
 }
 
+// Refuses a field where no more may stand.
+fn no_more(line: usize, bytes: &[u8]) -> Result<(), CardFault>
+    ensures { result ≡ ended line (fields bytes.now) }
+{
+    match split_field(bytes) {
+        Some(_) => Err(CardFault::BadForm(line)),
+        None => Ok(()),
+    }
+}
+
 // The weight in what stands behind a name, 1 where nothing does.
 fn weight_at(line: usize, bytes: &[u8]) -> Result<u32, CardFault>
     ensures { result ≡ weight_in line (fields bytes.now) }
@@ -70,9 +80,7 @@ fn weight_at(line: usize, bytes: &[u8]) -> Result<u32, CardFault>
     let Some((field, rest)) = split_field(bytes) else {
         return Ok(100);
     };
-    if split_field(rest).is_some() {
-        return Err(CardFault::BadForm(line));
-    }
+    no_more(line, rest)?;
     read_weight(field).ok_or(CardFault::BadWeight(line))
 }
 
@@ -111,9 +119,7 @@ impl Rest<'_> {
     {
         let line = self.line;
         let ids = self.ids.ok_or(CardFault::BadForm(line))?;
-        if split_field(self.front).is_some() {
-            return Err(CardFault::BadForm(line));
-        }
+        no_more(line, self.front)?;
         read_at(line, read_ids(heap, ids), CardFault::BadNumber(line))
     }
 
@@ -126,9 +132,7 @@ impl Rest<'_> {
             return Err(CardFault::BadForm(line));
         }
         let (field, rest) = split_field(self.front).ok_or(CardFault::BadForm(line))?;
-        if split_field(rest).is_some() {
-            return Err(CardFault::BadForm(line));
-        }
+        no_more(line, rest)?;
         let count = read_number(field).ok_or(CardFault::BadNumber(line))? as usize;
         if count < 1 || count > most {
             return Err(CardFault::OutOfRange(line));
