@@ -23,6 +23,7 @@ pub fn read_number(bytes: &[u8]) -> Option<u32>
     if bytes.is_empty() {
         return None;
     }
+    // not `try_fold`: its proof does not close, and this loop's does
     let mut value: u32 = 0;
     for byte in bytes {
         value = push_digit(value, *byte)?;
