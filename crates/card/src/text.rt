@@ -23,12 +23,9 @@ pub fn read_number(bytes: &[u8]) -> Option<u32>
     if bytes.is_empty() {
         return None;
     }
-    // not `try_fold`: its proof does not close, and this loop's does
-    let mut value: u32 = 0;
-    for byte in bytes {
-        value = push_digit(value, *byte)?;
-    }
-    Some(value)
+    bytes
+        .iter()
+        .try_fold(0, |value, byte| push_digit(value, *byte))
 }
 
 // The bytes before the first `byte`, and those after it, where there is one.
