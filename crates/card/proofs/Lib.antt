@@ -2,3 +2,4 @@ pub mod Bounds
 pub mod Sketches
 pub mod Texts
 pub mod Trips
+pub mod Folds

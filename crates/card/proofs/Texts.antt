@@ -3,7 +3,7 @@ use Rattle.std.proofs.Common.{◌≡◌, ℕ, suc, ◌+◌, ◌-◌, ◌*◌, �
 use Rattle.std.specs.Option.{option_copied}
 use Rattle.std.proofs.lemmas.List.Sums.{passes_at_first}
 use Rattle.std.specs.List.{position, position_or_len}
-use Rattle.std.proofs.lemmas.List.{at_drop_more, take_all, drop_more, drop_all}
+use Rattle.std.proofs.lemmas.List.{take_all, drop_more, drop_all}
 use Rattle.std.proofs.lemmas.Bool.{le-ltb, cond-true, cond-false, cases_Bool, cases_eq, and_cases, and_right, eq-eqb, ne_eqb, ltb-true, ltb-false, false≢true}
 use Rattle.card.specs.Text.{digit, all_digits, value_after, pushed, before, after, closed, fields, fields_after, lines, lines_after, all_name}
 
@@ -20,7 +20,7 @@ grows : (n : ℕ) (bs : List ℕ) → n ≤ value_after n bs
 grows n [] = omega arith
 grows n (c ∷ cs) = omega (arith, grows (n * 10 + (c - 48)) cs)
 
-digit_more : (n c : ℕ) (cs : List ℕ) → digit c ≡ true → read_on n (c ∷ cs) ≡ read_on (n * 10 + (c - 48)) cs
+pub digit_more : (n c : ℕ) (cs : List ℕ) → digit c ≡ true → read_on n (c ∷ cs) ≡ read_on (n * 10 + (c - 48)) cs
 digit_more n c cs h =
     ap
     (λ (b : Bool).
@@ -60,9 +60,6 @@ number_stop n c cs e =
     (cases_Bool (digit c)))
     (and_cases (digit c) (ltb v 4294967296) h))
     (cases_Bool t)
-
-pub number_stop_at : (bs : List ℕ) (i n : ℕ) → i < length bs → None ≡ pushed n (get_or bs i 0) → read_on n (drop i bs) ≡ None
-number_stop_at bs i n h e = at_drop_more (read_on n) bs i 0 h ∙ number_stop n (get_or bs i 0) (drop (i + 1) bs) e
 
 -- ---- parts
 

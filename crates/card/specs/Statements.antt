@@ -46,6 +46,11 @@ word_of w =
 
 -- ---- what stands behind the word; n is the line
 
+-- no field more
+abbrev pub ended : ℕ → List (List ℕ) → Result (Unit {0}) CardFault
+ended n [] = Ok tt
+ended n (w ∷ ws) = Err (BadForm n)
+
 -- behind a name: a weight, or nothing, which is 1
 abbrev pub weight_in : ℕ → List (List ℕ) → Result ℕ CardFault
 weight_in n [] = Ok 100

@@ -22,6 +22,18 @@ use crate::text::split_line;
 use std::alloc::Global;
 use std::num::nearest_u32_to_f32;
 
+// The most topics that a card may have, so also the most in which an exercise can be.
+pub const MAX_TOPICS: usize = 32;
+
+// The most exercises that may be shown of a topic.
+pub const MAX_PICK: usize = 64;
+
+// How many are shown where a card does not say.
+const DEFAULT_PICK: usize = 10;
+
+// In how many topics an exercise must be where a card does not say.
+const DEFAULT_AT_LEAST: usize = 1;
+
 // The exercises of one topic, as they stand in their line.
 #[derive(Drop)]
 pub struct Topic {
@@ -98,26 +110,27 @@ impl Card {
     pub fn pick(&self) -> usize
         ensures { result ≡ (sketch self.now).shown }
     {
-        self.pick.as_ref().map_or(10, |pick| pick.value)
+        self.pick.as_ref().map_or(DEFAULT_PICK, |pick| pick.value)
     }
 
     // In how many topics an exercise must be.
     pub fn at_least(&self) -> usize
         ensures { result ≡ (sketch self.now).least }
     {
-        self.at_least.as_ref().map_or(1, |least| least.value)
+        self.at_least
+            .as_ref()
+            .map_or(DEFAULT_AT_LEAST, |least| least.value)
     }
 
     fn put_topic(&mut self, line: usize, topic: Topic) -> Result<(), CardFault>
         ensures { Reads (λ _. sketch self.new) line result (taken line (sketch self.old) (said_topic (plain topic))) }
     {
-        if self.topics.len() >= 32 {
+        if self.topics.len() >= MAX_TOPICS {
             return Err(CardFault::TooManyTopics(line));
         }
         self.topics
             .push(topic)
-            .map_err(|_| CardFault::OutOfMemory(line))?;
-        Ok(())
+            .map_err(|_| CardFault::OutOfMemory(line))
     }
 
     // Takes in what a line says.
@@ -139,7 +152,7 @@ fn read_card(heap: Global, text: &str) -> Result<Card, CardFault>
     ensures { Parses text.now result }
 {
     let mut card = Card::new(heap);
-    // `split_line` hands out one line at a time, so they are counted here
+    // `split_line` hands out one line at a time, so they are counted here; `NoTopics` needs the count after the last line too
     let mut line: usize = 0;
     let mut left = text.as_bytes();
     while let Some((bytes, rest)) = split_line(left) {
@@ -159,5 +172,6 @@ pub fn parse(heap: Global, text: &str) -> Result<Card, CardFault>
     ensures says { Parses text.now result }
     ensures limits { Limited (length (lines text.now)) (sketched result) }
 {
+    // that the limits are kept follows from what `read_card` promises
     read_card(heap, text)
 }

@@ -4,8 +4,8 @@ ghost use Rattle.card.specs.Faults.{line_of};
 use docset::refusal::Refusal;
 use std::fmt;
 
-// What is wrong with a card, and in which line. Lines are counted from 1. Each variant holds its line itself, so that
-// a caller makes and matches a fault in one expression.
+// What is wrong with a card, and in which line. Lines are counted from 1. Each variant holds its line itself:
+// callers and tests name a fault and its line in one expression.
 #[derive(Clone, Copy, PartialEq, Debug)]
 pub enum CardFault {
     // The line begins with none of the five words.

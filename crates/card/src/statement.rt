@@ -4,14 +4,15 @@ ghost use Rattle.std.specs.Option.{option_copied, ok_or};
 ghost use Rattle.card.specs.declared.fault.CardFault.TheVariants.{OutOfMemory};
 ghost use Rattle.card.specs.Text.{fields};
 ghost use Rattle.card.specs.Faults.{Reads};
-ghost use Rattle.card.specs.Statements.{word_of, weight_in, count_in, seen_in, topic_in, plain, said, meant};
+ghost use Rattle.card.specs.Statements.{word_of, ended, weight_in, count_in, seen_in, topic_in, plain, said, meant};
 
-use crate::card::Topic;
+use crate::card::{MAX_PICK, MAX_TOPICS, Topic};
 use crate::fault::CardFault;
 use crate::text::{read_ids, read_name, read_number, read_weight, split_field, split_once};
 use std::alloc::{AllocError, Global};
 
-// The words that a line may begin with.
+// The words that a line may begin with. They are told apart in `read_word` alone: where the same match also reads what
+// stands behind, its last arm is not proved.
 #[derive(Clone, Copy)]
 enum Word {
     Topic,
@@ -63,6 +64,16 @@ fn read_at<T: Drop>(
     read.map_err(|_| CardFault::OutOfMemory(line))?.ok_or(fault)
 }
 
+// Refuses a field where no more may stand.
+fn no_more(line: usize, bytes: &[u8]) -> Result<(), CardFault>
+    ensures { result ≡ ended line (fields bytes.now) }
+{
+    match split_field(bytes) {
+        Some(_) => Err(CardFault::BadForm(line)),
+        None => Ok(()),
+    }
+}
+
 // The weight in what stands behind a name, 1 where nothing does.
 fn weight_at(line: usize, bytes: &[u8]) -> Result<u32, CardFault>
     ensures { result ≡ weight_in line (fields bytes.now) }
@@ -70,9 +81,7 @@ fn weight_at(line: usize, bytes: &[u8]) -> Result<u32, CardFault>
     let Some((field, rest)) = split_field(bytes) else {
         return Ok(100);
     };
-    if split_field(rest).is_some() {
-        return Err(CardFault::BadForm(line));
-    }
+    no_more(line, rest)?;
     read_weight(field).ok_or(CardFault::BadWeight(line))
 }
 
@@ -111,14 +120,12 @@ impl Rest<'_> {
     {
         let line = self.line;
         let ids = self.ids.ok_or(CardFault::BadForm(line))?;
-        if split_field(self.front).is_some() {
-            return Err(CardFault::BadForm(line));
-        }
+        no_more(line, self.front)?;
         read_at(line, read_ids(heap, ids), CardFault::BadNumber(line))
     }
 
     // What stands behind `pick` or `at-least`: a number from 1 to `most`.
-    fn count(&self, most: u32) -> Result<usize, CardFault>
+    fn count(&self, most: usize) -> Result<usize, CardFault>
         ensures { result ≡ count_in self.now.line most (fields self.now.front.now) (option_copied self.now.ids) }
     {
         let line = self.line;
@@ -126,14 +133,12 @@ impl Rest<'_> {
             return Err(CardFault::BadForm(line));
         }
         let (field, rest) = split_field(self.front).ok_or(CardFault::BadForm(line))?;
-        if split_field(rest).is_some() {
-            return Err(CardFault::BadForm(line));
-        }
-        let count = read_number(field).ok_or(CardFault::BadNumber(line))?;
+        no_more(line, rest)?;
+        let count = read_number(field).ok_or(CardFault::BadNumber(line))? as usize;
         if count < 1 || count > most {
             return Err(CardFault::OutOfRange(line));
         }
-        Ok(count as usize)
+        Ok(count)
     }
 }
 
@@ -156,7 +161,7 @@ pub fn read_statement(heap: Global, line: usize, bytes: &[u8]) -> Result<Stateme
         Word::Topic => rest.topic(heap).map(Statement::Topic),
         Word::Bonus => rest.topic(heap).map(Statement::Bonus),
         Word::Seen => rest.seen(heap).map(Statement::Seen),
-        Word::Pick => rest.count(64).map(Statement::Pick),
-        Word::AtLeast => rest.count(32).map(Statement::AtLeast),
+        Word::Pick => rest.count(MAX_PICK).map(Statement::Pick),
+        Word::AtLeast => rest.count(MAX_TOPICS).map(Statement::AtLeast),
     }
 }

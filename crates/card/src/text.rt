@@ -5,7 +5,10 @@ ghost use Rattle.card.specs.Text.{pushed, number, before, after, fields, lines, 
 
 use std::alloc::{AllocError, Global};
 
-// The number so far with one more digit, if it is one and the number fits.
+// The largest weight, in hundredths.
+const MAX_WEIGHT: u64 = 100000;
+
+// The number so far with one more digit, if it is one and the number fits. `parse` is no help here: it takes a `+` too.
 fn push_digit(value: u32, byte: u8) -> Option<u32>
     ensures { result ≡ pushed value byte }
 {
@@ -20,11 +23,9 @@ pub fn read_number(bytes: &[u8]) -> Option<u32>
     if bytes.is_empty() {
         return None;
     }
-    let mut value: u32 = 0;
-    for byte in bytes {
-        value = push_digit(value, *byte)?;
-    }
-    Some(value)
+    bytes
+        .iter()
+        .try_fold(0, |value, byte| push_digit(value, *byte))
 }
 
 // The bytes before the first `byte`, and those after it, where there is one.
@@ -80,6 +81,7 @@ pub fn read_ids(heap: Global, bytes: &[u8]) -> Result<Option<Vec<u32>>, AllocErr
     ensures value { IfOk result (λ o. option_map vec_items o ≡ ids_of bytes.now) }
     ensures back { (ns : List ℕ) → Fit ns → bytes.now ≡ written ns → IfOk result (λ o. option_map vec_items o ≡ Some ns) }
 {
+    // that what is written is read back follows from what `numbers_of` promises
     numbers_of(heap, bytes)
 }
 
@@ -107,7 +109,7 @@ pub fn read_weight(bytes: &[u8]) -> Option<u32>
         None => 0,
     };
     let weight = whole as u64 * 100 + cents;
-    if weight > 100000 {
+    if weight > MAX_WEIGHT {
         return None;
     }
     Some(weight as u32)
@@ -120,7 +122,7 @@ fn is_name_byte(byte: u8) -> bool
     byte.is_ascii_alphanumeric() || byte == b'-' || byte == b'_'
 }
 
-// A name of letters, digits, `-` and `_`, or none likewise.
+// A name of letters, digits, `-` and `_`, or none if no byte stands there or another one does. As in `read_ids`, None is no error.
 pub fn read_name(heap: Global, bytes: &[u8]) -> Result<Option<String>, AllocError>
     ensures { IfOk result (λ o. option_map string_bytes o ≡ name bytes.now) }
 {

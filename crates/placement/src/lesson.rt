@@ -14,6 +14,9 @@ use leaves::vec_docset::VecDocSet;
 use std::alloc::{AllocError, Global};
 use std::io;
 
+// So many blocks of 64 hold 2147483647 ids, the most that a steady set has.
+const MAX_BLOCKS: u32 = 33554432;
+
 // The ids of a set, read in blocks of 64. A set that is not steady may go on for good: it is read for as many blocks as a steady one
 // can have.
 pub fn ids_by_blocks<S: DocSet>(heap: Global, mut set: S) -> Result<Vec<u32>, AllocError>
@@ -21,8 +24,9 @@ pub fn ids_by_blocks<S: DocSet>(heap: Global, mut set: S) -> Result<Vec<u32>, Al
 {
     let mut ids = Vec::new(heap);
     let mut block = [0u32; COLLECT_BLOCK_BUFFER_LEN];
+    // a steady set tells here that its ids rise, so that they are few enough
     let _doc = set.doc();
-    for _turn in 0..33554432u32 {
+    for _turn in 0..MAX_BLOCKS {
         let filled = set.fill_buffer(&mut block);
         ids.extend_from_slice(&block[0..filled])?;
         if filled < COLLECT_BLOCK_BUFFER_LEN {

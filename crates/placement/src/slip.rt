@@ -4,7 +4,7 @@ ghost use Rattle.docset.specs.Meaning.{Steady, Known};
 ghost use Rattle.pick.specs.Picks.{hits, Shown};
 ghost use Rattle.placement.specs.Slips.{left_over};
 
-use card::card::{Card, Topic};
+use card::card::{Card, MAX_PICK, Topic};
 use combiner::score_combiner::SumCombiner;
 use docset::docset::DocSet;
 use docset::scorer::Scorer;
@@ -73,7 +73,7 @@ fn show_hit(rt: &HostRuntime, rank: usize, hit: &Hit) -> io::Result<()> {
 }
 
 fn show_topic(rt: &HostRuntime, topic: &Topic, bonus: Weighted, card: &Card) -> anyhow::Result<()> {
-    let mut places = [Hit { bits: 0, id: 0 }; 64];
+    let mut places = [Hit { bits: 0, id: 0 }; MAX_PICK];
     let picked = pick_best(
         rt.alloc(),
         exercises_of(topic),
