@@ -11,8 +11,8 @@ use crate::fault::CardFault;
 use crate::text::{read_ids, read_name, read_number, read_weight, split_field, split_once};
 use std::alloc::{AllocError, Global};
 
-// The words that a line may begin with. They are told apart in `read_word` alone: where the same match also reads what
-// stands behind, its last arm is not proved.
+// The words that a line may begin with. They are told apart in `read_word` alone: of a match that also reads what
+// stands behind the word, the last arm's proof does not close.
 #[derive(Clone, Copy)]
 enum Word {
     Topic,
