@@ -53,7 +53,7 @@ impl Topic {
     }
 }
 
-// What a line says, and which line.
+// What a line says, and which line. A topic has its line itself.
 #[derive(Drop)]
 pub struct Stated<T> {
     pub value: T,
@@ -152,7 +152,8 @@ fn read_card(heap: Global, text: &str) -> Result<Card, CardFault>
     ensures { Parses text.now result }
 {
     let mut card = Card::new(heap);
-    // `split_line` hands out one line at a time, so they are counted here; `NoTopics` needs the count after the last line too
+    // No `lines().enumerate()`: std's lines lose a carriage return, which is a byte like any other here, and `NoTopics` needs the
+    // count after the last line too.
     let mut line: usize = 0;
     let mut left = text.as_bytes();
     while let Some((bytes, rest)) = split_line(left) {

@@ -25,6 +25,7 @@ enum Word {
 // What a line says.
 #[derive(Drop)]
 pub enum Statement {
+    // A line that is blank or a note: one more statement, and no missing one.
     Nothing,
     Topic(Topic),
     Bonus(Topic),

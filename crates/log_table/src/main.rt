@@ -22,6 +22,7 @@ use read::{End, Leaf, Script, read_leaf, read_script};
 use std::alloc::{AllocError, Global};
 
 // What a set answers to a script.
+// The answers of a set to a script. Each arm makes its own call: an alive set has to outlive the `Last` that holds it.
 fn answers<S: Scorer>(heap: Global, set: S, script: &Script) -> Result<Vec<Answer>, AllocError> {
     let calls = script.calls.as_slice();
     match &script.end {
@@ -34,12 +35,13 @@ fn answers<S: Scorer>(heap: Global, set: S, script: &Script) -> Result<Vec<Answe
     }
 }
 
+// Plays a script on what a builder answered.
 fn play<S: Scorer>(
     rt: &HostRuntime,
-    refusal: Option<Refusal>,
-    set: S,
+    built: (Option<Refusal>, S),
     script: &Script,
 ) -> anyhow::Result<()> {
+    let (refusal, set) = built;
     if let Some(refusal) = refusal {
         print!(rt; "{}, ", Refused(refusal))?;
     }
@@ -56,18 +58,9 @@ fn play_line(rt: &HostRuntime, line: &str) -> anyhow::Result<()> {
     let leaf = read_leaf(rt.alloc(), leaf)?;
     let script = read_script(rt.alloc(), calls)?;
     match leaf {
-        Leaf::Ids(ids) => {
-            let (refusal, set) = VecDocSet::new(ids.as_slice());
-            play(rt, refusal, set, &script)
-        }
-        Leaf::Bits(size, words) => {
-            let (refusal, set) = BitSetDocSet::new(words.as_slice(), size);
-            play(rt, refusal, set, &script)
-        }
-        Leaf::All(size) => {
-            let (refusal, set) = AllScorer::new(size);
-            play(rt, refusal, set, &script)
-        }
+        Leaf::Ids(ids) => play(rt, VecDocSet::new(ids.as_slice()), &script),
+        Leaf::Bits(size, words) => play(rt, BitSetDocSet::new(words.as_slice(), size), &script),
+        Leaf::All(size) => play(rt, AllScorer::new(size), &script),
     }
 }
 

@@ -32,11 +32,11 @@ pub enum Answer {
     // Of `Doc`, `Advance` and `Seek`.
     Id(u32),
     Points(f32),
-    // Of a probe that finds its target.
+    // Of a probe that finds its target. Two variants and no bool, as a log is read.
     Hit,
     // Of a probe that does not. Its bound is not logged, since sets may differ in it.
     Miss,
-    // How many ids a block wrote, and the buffer that it left.
+    // How many ids a block wrote, and the whole buffer that it left: its later places are part of the answer.
     Written(usize, [u32; COLLECT_BLOCK_BUFFER_LEN]),
     // Of a count.
     Number(u32),

@@ -47,7 +47,7 @@ pub fn replay<S: Scorer>(
     Ok(answers)
 }
 
-// Makes the calls in turn, as far as the caller's places reach, and tells how many it made. Later places are as they were.
+// The same without memory of its own. Makes the calls in turn, as far as the caller's places reach, and tells how many it made. Later places are as they were.
 pub fn replay_into<S: Scorer>(set: &mut S, calls: &[Call], answers: &mut [Answer]) -> usize
     ensures count { result ≡ min (length calls.now) (length answers.old) }
     ensures log { Replayed (S.DocSet.meaning set.old) (S.DocSet.meaning set.new) (take result calls.now) ongoing (take result answers.new) }

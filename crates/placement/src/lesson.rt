@@ -42,6 +42,7 @@ pub fn count_listed<S: DocSet>(mut set: S, ids: &[u32]) -> usize
     ensures tells { Known (S.meaning set).mark → RisingIds 0 ids.now → result ≡ listed_count ids.now (S.meaning set).pairs }
 {
     let mut count = 0;
+    // a loop, since each probe changes the set
     for id in ids {
         if set.seek_danger(*id) == SeekDangerResult::Found {
             count += 1;
@@ -61,6 +62,7 @@ pub fn leaf_ids(heap: Global, line: usize, ids: &[u32]) -> Result<Vec<u32>, Card
     ids_by_blocks(heap, leaf).map_err(|_| CardFault::OutOfMemory(line))
 }
 
+// The first id and the last one: functions of their own, so that the ids which are printed are promised.
 pub fn first_of(ids: &[u32]) -> Option<u32>
     ensures { result ≡ slice_get ids.now 0 }
 {
@@ -150,6 +152,7 @@ fn show_card(rt: &HostRuntime, card: &Card) -> Result<(), Stop> {
         show_topic(rt, "topic", topic, seen.as_slice(), &mut totals)?;
     }
     if let Some(bonus) = &card.bonus {
+        // the bonus is not in the totals
         show_topic(rt, "bonus", bonus, seen.as_slice(), &mut Totals::default())?;
     }
     let count = card.topics.len();

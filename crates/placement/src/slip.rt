@@ -42,7 +42,14 @@ pub fn best_left<R: Scorer, O: Scorer, S: DocSet>(
     best_hits(heap, Exclude::new(both, OneSet::new(seen)), places)
 }
 
-// The same of a topic, a bonus and a list of what was seen. The ids were checked before: a list that is refused is empty here.
+// A set over exercises that share a weight. The ids were checked before: a list that is refused is empty here.
+fn set_of(exercises: Weighted<'_>) -> BoostScorer<VecDocSet<'_>> {
+    let (_, set) = VecDocSet::new(exercises.ids);
+    let (_, weighted) = BoostScorer::new(set, exercises.weight);
+    weighted
+}
+
+// The same of a topic, a bonus and a list of what was seen.
 fn pick_best(
     heap: Global,
     topic: Weighted,
@@ -50,12 +57,8 @@ fn pick_best(
     seen: &[u32],
     places: &mut [Hit],
 ) -> Result<usize, AllocError> {
-    let (_, exercises) = VecDocSet::new(topic.ids);
-    let (_, required) = BoostScorer::new(exercises, topic.weight);
-    let (_, extras) = VecDocSet::new(bonus.ids);
-    let (_, optional) = BoostScorer::new(extras, bonus.weight);
     let (_, met) = VecDocSet::new(seen);
-    best_left(heap, required, optional, met, places)
+    best_left(heap, set_of(topic), set_of(bonus), met, places)
 }
 
 fn exercises_of(topic: &Topic) -> Weighted<'_> {

@@ -27,7 +27,8 @@ pub(crate) struct Group {
     pub(crate) tally: Tally,
 }
 
-// Where a threshold comes to stand: at TERMINATED, with the score 0.0, where no document is left.
+// Where a threshold comes to stand: at TERMINATED, with the score 0.0, where no document is left. It is no Option: `DocSet` tells
+// TERMINATED there, and None is kept for a threshold that stands nowhere yet.
 #[derive(Clone, Copy)]
 pub(crate) struct Stand {
     pub(crate) doc: u32,

@@ -21,7 +21,7 @@ pub struct BufferedUnionScorer<B, C> {
     start: u32,
     // TERMINATED at the end, as `doc` answers it.
     doc: u32,
-    // The current document's score.
+    // The current document's score. Beside it and not in one value: clauses say of the document alone where it stands.
     score: f32,
     // How many documents the segment has, for the hint. That it stays is one short equation in the clauses of each call.
     num_docs: u32,

@@ -22,7 +22,7 @@ use live::live::Live;
 use refill::refill::{horizon, refill};
 use window::window::{HORIZON_NUM_TINYBITSETS, Window};
 
-// How many sets a union takes at most.
+// How many sets a union takes at most: as many as `Live` asks.
 const MOST: usize = live::live::MOST;
 
 impl<B: Bank, C: ScoreCombiner> BufferedUnionScorer<B, C> {
