@@ -11,8 +11,9 @@ use Rattle.docset.proofs.Lists.{from_all}
 use Rattle.live.proofs.Keeps.{lowest_le}
 use Rattle.refill.specs.Refills.{Refilled, reach}
 use Rattle.refill.specs.State.{bound, settled, next_reach, Anew, Reads, ReadsThrough, trail, reach_after}
-use Rattle.refill.proofs.States.{filled_some, settled_is, settled_passed, bound_on, bound_end, lowest_passed}
-use Rattle.refill.proofs.Seeks.{from_none, passed_steady}
+use Rattle.refill.proofs.States.{filled_some, settled_is, settled_passed, bound_on, bound_end}
+use Rattle.live.proofs.Passed.{passed_steady, lowest_passed}
+use Rattle.refill.proofs.Seeks.{from_none}
 
 -- sets that are read to h already
 pub passed_same : (h : ℕ) (ms : List Meaning) → AllSteady ms → h ≤ lowest_of ms → ms ≡ passed h ms

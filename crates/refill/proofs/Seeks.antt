@@ -1,6 +1,6 @@
 -- Seeks of a union, within its window and past it.
 use Rattle.std.proofs.Common.{◌≡◌, ℕ, zero, suc, ◌+◌, ◌-◌, ◌<◌, ◌≤◌, true, false, ◌⊎◌, List, [], ◌∷◌, length, sym, refl, ap, ◌∙◌, subst, inl, inr, ⊎_elim, arith, lt-ltb}
-use Rattle.docset.proofs.Lists.{rising_from, from_shorter}
+use Rattle.docset.proofs.Lists.{from_shorter}
 use Rattle.docset.proofs.Walking.{seek_starts, seek_ends}
 use Rattle.refill.proofs.Lengths.{count_zero}
 use lib.Ieee.{Float}
@@ -16,7 +16,8 @@ use Rattle.combiner.proofs.Cells.{count_step, filled, listed_same, listed_none, 
 use Rattle.refill.specs.Refills.{reach}
 use Rattle.refill.specs.State.{settled, bound, ahead, standing, union_meaning, Opened}
 use Rattle.live.proofs.Scores.{at_passed, at_gone}
-use Rattle.refill.proofs.States.{ahead_in, ahead_out, union_low, settled_is, lowest_passed}
+use Rattle.refill.proofs.States.{ahead_in, ahead_out, union_low, settled_is}
+use Rattle.live.proofs.Passed.{passed_steady, passed_rising, lowest_passed}
 use Rattle.refill.proofs.Moves.{is_calm, is_settled, stands, lost_length, standing_rises}
 
 pub sought_stay : (t d : ℕ) (m : Meaning) → (t ≤ d) ⊎ (d ≡ TERM) → Told m d → Sought t m m d
@@ -93,14 +94,6 @@ skipped f tell s doc t w x a b ms cr n r sd lt tr wt v o = record {
         let h = count_fewer a b 0 4096 (λ d g. cell d) in
         omega arith
 
-pub passed_rises : (h : ℕ) (ms : List Meaning) → AllRising ms → AllRising (passed h ms)
-passed_rises h [] r = tt
-passed_rises h (m ∷ ms) r = (rising_from h 0 m.pairs r.0, passed_rises h ms r.1)
-
-pub passed_steady : (h : ℕ) (ms : List Meaning) → AllSteady (passed h ms)
-passed_steady h [] = tt
-passed_steady h (m ∷ ms) = (refl, passed_steady h ms)
-
 pub from_none : (t lo : ℕ) (ps : List Pair) → TERM ≤ t → Rising lo ps → from t ps ≡ []
 from_none t lo [] le r = refl
 from_none t lo (p ∷ ps) le r = let h = lt-ltb p.id t (omega arith) in rw h (from_none t (suc p.id) ps le r.2)
@@ -116,7 +109,7 @@ far_list f tell s doc t x a ms r lt le = ⊎_elim near (λ g. from_none t 0 (sta
     near h =
         from_standing tell (ahead f s a ms) doc t x lt (omega arith)
         ∙ listed_same tell (ahead f s a ms) (united f (passed t ms)) t (TERM - t) (λ d g l. ahead_out f s a ms d (omega arith) ∙ ap (puts f none) (sym (at_passed t d ms g)))
-        ∙ sym (union_low f tell (passed t ms) t (passed_rises t ms r) (lowest_passed t ms (omega arith)))
+        ∙ sym (union_low f tell (passed t ms) t (passed_rising t ms r) (lowest_passed t ms (omega arith)))
 
 -- a target past the window: the sets are sought, and a window opened over them
 pub sought_far : (f : Tally → Float → Tally) (tell : Tally → Float) (s doc t : ℕ) (x : Float) (a : ℕ → Cell) (P Q : List Meaning) (cr cr1 : ℕ) (n : Meaning) (r : ℕ)

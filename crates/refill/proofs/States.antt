@@ -1,6 +1,5 @@
 -- What a union lists that stands somewhere in its window.
 use Rattle.std.proofs.Common.{◌≡◌, ℕ, suc, ◌+◌, ◌-◌, ◌<◌, ◌≤◌, true, leb, ◌⊎◌, List, [], ◌∷◌, sym, refl, ap, ◌∙◌, inl, inr, arith, le-ltb, lt-ltb, le-leb, leb-true}
-use Rattle.docset.proofs.Lists.{from_least}
 use lib.Ieee.{Float}
 use Rattle.combiner.specs.declared.score_combiner.Tally.{Tally}
 use Rattle.combiner.specs.Cells.{Cell, none, some, puts, listed}
@@ -9,7 +8,7 @@ use Rattle.std.proofs.lemmas.Bool.{cases_lt, and_parts, and_from}
 use Rattle.docset.specs.Meaning.{Meaning, TERM}
 use Rattle.live.specs.Sets.{passed, lowest_of, AllSteady, AllRising, all_steady}
 use Rattle.live.proofs.Keeps.{lowest_le}
-use Rattle.live.proofs.Passed.{test_steady, steady_test}
+use Rattle.live.proofs.Passed.{test_steady, steady_test, lowest_passed}
 use Rattle.live.specs.Lists.{scores_at, united, union_list}
 use Rattle.combiner.proofs.Cells.{listed_same, listed_skip, listed_head}
 use Rattle.refill.specs.Refills.{AllSound, Refilled, reach}
@@ -81,10 +80,6 @@ filled_some f ms ns a b low s q lt z v =
     (t.0, v.inside s 0 (omega arith) ∙ ap (λ c. puts f c (scores_at (low + 0) ms)) (z 0) ∙ ap (united f ms) e ∙ t.1)
 
 -- settled
-pub lowest_passed : (h : ℕ) (ms : List Meaning) → h ≤ TERM → h ≤ lowest_of (passed h ms)
-lowest_passed h [] le = le
-lowest_passed h (m ∷ ms) le = let a = from_least h m.pairs le in let b = lowest_passed h ms le in omega arith
-
 steady_passed : (h : ℕ) (ms : List Meaning) → all_steady (passed h ms) ≡ true
 steady_passed h [] = refl
 steady_passed h (m ∷ ms) = steady_passed h ms

@@ -1,5 +1,5 @@
 -- What the fields of a union keep between calls.
-use Rattle.std.proofs.Common.{◌≡◌, ℕ, zero, suc, ◌+◌, ◌-◌, ◌<◌, ◌≤◌, List, [], ◌∷◌, sym, refl, ap, ◌∙◌, subst, ⊎_elim, arith}
+use Rattle.std.proofs.Common.{◌≡◌, ℕ, suc, ◌+◌, ◌-◌, ◌<◌, ◌≤◌, List, [], ◌∷◌, sym, refl, ap, ◌∙◌, subst, ⊎_elim, arith}
 use lib.Ieee.{Float}
 use Rattle.combiner.specs.declared.score_combiner.Tally.{Tally}
 use Rattle.window.specs.Slots.{slot}
@@ -10,7 +10,7 @@ use Rattle.combiner.proofs.Cells.{count_none, listed_none}
 use Rattle.window.specs.Windows.{cells, Next, Ended, Wiped}
 use Rattle.std.proofs.lemmas.Bool.{cases_lt, cases_eq}
 use Rattle.window.proofs.Held.{slot_none, none_slot}
-use Rattle.docset.specs.Meaning.{Meaning, TERM, Steady, calm, from, first_id}
+use Rattle.docset.specs.Meaning.{Meaning, TERM, Steady, calm, first_id}
 use Rattle.bank.specs.Places.{Rows, at}
 use Rattle.live.specs.Sets.{AllSteady, AllRising, lowest_of, passed}
 use Rattle.live.specs.Lists.{united}
@@ -94,11 +94,6 @@ lowest_alike (x ∷ X) [] h =
     let a = ap (λ (m : Meaning). first_id m.pairs) (h 0) in let b = lowest_alike X [] (λ k. h (suc k)) in omega arith
 lowest_alike (x ∷ X) (y ∷ Y) h =
     let a = ap (λ (m : Meaning). first_id m.pairs) (h 0) in let b = lowest_alike X Y (λ k. h (suc k)) in omega arith
-
-pub at_passed_place : (h : ℕ) (ms : List Meaning) (k : ℕ) → at (passed h ms) k ≡ calm (from h (at ms k).pairs)
-at_passed_place h [] k = refl
-at_passed_place h (m ∷ ms) zero = refl
-at_passed_place h (m ∷ ms) (suc k) = at_passed_place h ms k
 
 -- ---- opening a window
 

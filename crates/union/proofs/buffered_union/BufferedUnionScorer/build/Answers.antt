@@ -4,10 +4,11 @@ use Rattle.docset.specs.Meaning.{Meaning, calm, from}
 use Rattle.bank.specs.Places.{at}
 use Rattle.live.specs.Sets.{lowest_of}
 use Rattle.live.proofs.Keeps.{idle_steady, idle_low, alike_places}
+use Rattle.live.proofs.Passed.{at_passed_sets}
 use Rattle.live.proofs.Scores.{union_alike}
 use Rattle.refill.specs.Refills.{reach}
 use Rattle.refill.proofs.Moves.{idle_calm}
-use Rattle.union.proofs.Ghosts.{fields_none, lowest_alike, at_passed_place, alike_steady}
+use Rattle.union.proofs.Ghosts.{fields_none, lowest_alike, alike_steady}
 use Rattle.union.proofs.buffered_union.BufferedUnionScorer.build.Goals as goal
 
 pub invariant_of-refused : goal.invariant_of-refused
@@ -35,6 +36,6 @@ returns-clause-reads g c few s k =
     let Q = left g.B.Bank.rows v in
     let e = alike_places g.B.Bank.rows c.args.bank v few (c.new-sets.ensures.apt s) in
     let z = alike_steady Q P e s in
-    ap (λ X. at X k) (c.open.ensures.anew.list z) ∙ at_passed_place (reach c.open.result) Q k ∙
+    ap (λ X. at X k) (c.open.ensures.anew.list z) ∙ at_passed_sets (reach c.open.result) Q k ∙
     ap (λ x. calm (from (reach x) (at Q k).pairs)) (c.open.ensures.anew.lowest z ∙ lowest_alike Q P e) ∙
     ap (λ (x : Meaning). calm (from (reach (lowest_of P)) x.pairs)) (e k)
