@@ -209,6 +209,11 @@ reversed_is true true a b p q e f g h = grind (arith, nat_tests)
 pub standing_depth : (a b : ℕ) → ordering_reverse (standing (of_bits binary32 a) (of_bits binary32 b)) ≡ nat_cmp (depth a) (depth b)
 standing_depth a b = ap ordering_reverse (standing_is a b) ∙ reversed_is _ _ a b (a % 2147483648) (b % 2147483648) refl refl (omega arith) (omega arith)
 
+ranked_is : (s r : Bool) (a b p q i j : ℕ) → nat_le 2147483648 a ≡ s → nat_le 2147483648 b ≡ r → p < 2147483648 → q < 2147483648
+    → ranked (stand (nat_lt 2139095040 p) (nat_lt 2139095040 q) (total s p r q)) i j
+    ≡ lex (cond (nat_lt 2139095040 p) 4194303 (cond (nat_lt a 2147483648) (2147483647 - p) (2147483648 + p))) i (cond (nat_lt 2139095040 q) 4194303 (cond (nat_lt b 2147483648) (2147483647 - q) (2147483648 + q))) j
+ranked_is s r a b p q i j e f g h = ap (λ o. is_le (ordering_then o (nat_cmp i j))) (reversed_is s r a b p q e f g h)
+
 -- hits rank as their depths and ids do
 pub ranked_depth : (a b i j : ℕ) → ranked (standing (of_bits binary32 a) (of_bits binary32 b)) i j ≡ lex (depth a) i (depth b) j
-ranked_depth a b i j = ap (λ o. is_le (ordering_then o (nat_cmp i j))) (standing_depth a b)
+ranked_depth a b i j = ap (λ o. ranked o i j) (standing_is a b) ∙ ranked_is _ _ a b (a % 2147483648) (b % 2147483648) i j refl refl (omega arith) (omega arith)

@@ -2,9 +2,11 @@ ghost use Rattle.std.specs.Prelude.{◌≡◌, from_bits, to_bits, refl};
 ghost use Rattle.std.specs.Float.{binary32};
 ghost use Rattle.std.specs.Ordering.{as_partial_cmp, eq_by_cmp};
 ghost use Rattle.std.specs.Cmp.{eq_by_cmp_equiv, partial_equiv_from_equiv, partial_order_from_total};
-ghost use Rattle.heap.specs.Scores.{hit_cmp, depth as depth_of};
+ghost use Rattle.heap.specs.Scores.{hit_cmp, ranked, standing, depth as depth_of};
 ghost use Rattle.heap.specs.HitOrder.{hits_total};
+ghost use Rattle.heap.specs.Orders.{either, chain};
 
+use super::order::Order;
 use std::cmp::Ordering;
 use std::num::f32_to_bits_with_nan;
 
@@ -92,6 +94,19 @@ impl Ord for Hit {
         depth(self.bits)
             .cmp(&depth(other.bits))
             .then(self.id.cmp(&other.id))
+    }
+}
+
+/// The order of its `Ord`.
+impl Order for Hit {
+    ghost before = { λ a b. ranked (standing (from_bits binary32 a.bits) (from_bits binary32 b.bits)) a.id b.id };
+
+    ghost total = { either hits_total };
+
+    ghost transitive = { chain hits_total };
+
+    fn at_or_before(&self, other: &Self) -> bool {
+        self <= other
     }
 }
 
