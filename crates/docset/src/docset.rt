@@ -91,6 +91,14 @@ pub trait DocSet: Drop + Sized {
     fn fill_buffer(&mut self, buffer: &mut [u32; COLLECT_BLOCK_BUFFER_LEN]) -> usize
         ensures { Filled (meaning self.old) (meaning self.new) buffer.old buffer.new result }
     {
+        self.fill_by_advance(buffer)
+    }
+
+    // A block by going on one document at a time. It is the given body of `fill_buffer` under a name of its own, so that a set with a
+    // `fill_buffer` of its own can still call it.
+    fn fill_by_advance(&mut self, buffer: &mut [u32; COLLECT_BLOCK_BUFFER_LEN]) -> usize
+        ensures { Filled (meaning self.old) (meaning self.new) buffer.old buffer.new result }
+    {
         let mut doc = self.doc();
         if doc == TERMINATED {
             return 0;

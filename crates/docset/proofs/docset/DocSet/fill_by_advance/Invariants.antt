@@ -1,7 +1,7 @@
 use Rattle.std.proofs.Common.{◌≡◌}
 use Rattle.docset.specs.Meaning.{TERM}
 use Rattle.docset.proofs.Walking.{Filling}
-use Rattle.docset.proofs.docset.DocSet.fill_buffer.Given as goal
+use Rattle.docset.proofs.docset.DocSet.fill_by_advance.Given as goal
 
 abbrev pub invariant-loop-place : goal.invariant-loop-place
 invariant-loop-place g l =

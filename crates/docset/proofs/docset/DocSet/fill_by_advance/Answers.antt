@@ -1,6 +1,6 @@
 use Rattle.std.proofs.Common.{inr, add-one, arith}
 use Rattle.docset.proofs.Walking.{fill_steps, fill_ends, fill_full}
-use Rattle.docset.proofs.docset.DocSet.fill_buffer.Goals as goal
+use Rattle.docset.proofs.docset.DocSet.fill_by_advance.Goals as goal
 
 pub returns-then-doc-eq-TERMINATED-2 : goal.returns-then-doc-eq-TERMINATED-2
 returns-then-doc-eq-TERMINATED-2 g c =
