@@ -66,7 +66,11 @@ impl DocSet for AllScorer {
     }
 
     fn seek(&mut self, target: u32) -> u32 {
-        self.doc = target.clamp(self.doc, self.max_doc);
+        // A test of its own for a target that is not ahead: by a `clamp` a run of seeks took 1.4 times the instructions.
+        if target <= self.doc {
+            return self.doc();
+        }
+        self.doc = target.min(self.max_doc);
         self.doc()
     }
 

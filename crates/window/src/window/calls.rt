@@ -53,7 +53,12 @@ impl Window {
     pub fn next(&mut self) -> Option<(u32, Tally)>
         ensures { Pops (cells self.old) (cells self.new) result }
     {
-        self.bucket += first_set(&self.words[self.bucket..])?;
+        let Some(empty) = first_set(&self.words[self.bucket..]) else {
+            // Nothing is left: the next call does not go over the empty words again.
+            self.bucket = HORIZON_NUM_TINYBITSETS;
+            return None;
+        };
+        self.bucket += empty;
         Some(self.pop())
     }
 
