@@ -21,7 +21,6 @@ use print::{Answered, Refused};
 use read::{End, Leaf, Script, read_leaf, read_script};
 use std::alloc::{AllocError, Global};
 
-// What a set answers to a script.
 // The answers of a set to a script. Each arm makes its own call: an alive set has to outlive the `Last` that holds it.
 fn answers<S: Scorer>(heap: Global, set: S, script: &Script) -> Result<Vec<Answer>, AllocError> {
     let calls = script.calls.as_slice();

@@ -9,11 +9,11 @@ use Rattle.std.proofs.lemmas.Bool.{cases_lt, cases_Bool}
 use Rattle.docset.specs.Meaning.{lost, Meaning, Pair, TERM, Steady, Known, Rising, calm, first_id, first_score, zero_score, rest}
 use Rattle.docset.specs.Calls.{Told, Moved, Scored}
 use Rattle.live.specs.Sets.{lowest_of, AllSteady, AllRising}
-use Rattle.live.specs.Lists.{union_list}
+use Rattle.live.specs.Lists.{united, union_list}
 use Rattle.refill.specs.Refills.{AllSound, Refilled, reach}
 use Rattle.refill.specs.State.{settled, bound, ahead, standing, on, union_meaning, Opened}
-use Rattle.combiner.proofs.Cells.{count_none, listed_rises, length_listed, count_less}
-use Rattle.refill.proofs.States.{pop_list, spent_list, filled_list, filled_some, settled_passed, settled_is, settled_by, bound_on, bound_end}
+use Rattle.combiner.proofs.Cells.{count_none, listed_none, listed_rises, length_listed, count_less}
+use Rattle.refill.proofs.States.{pop_list, union_low, spent_list, filled_list, filled_some, settled_passed, settled_is, settled_by, bound_on, bound_end}
 use Rattle.live.proofs.Thresholds.{total}
 use Rattle.refill.proofs.Lengths.{ahead_small}
 
@@ -253,6 +253,24 @@ opened_none f tell P Q a b c low x cr cr1 rises lowest lt z v n pays tot = recor
       let h = small f tell low TERM x c Q cr1 (omega arith) tot in
       let k = count_none c 0 4096 (λ e g l. n.same e ∙ n.all e) in
       let l = count_none b 0 4096 (λ k g l. n.all k) in
+      let y = count_none a 0 4096 (λ k g l. z k) in
+      omega arith;
+}
+
+-- The same of a union that keeps its window, from wherever that starts.
+pub opened_end : (f : Tally → Float → Tally) (tell : Tally → Float) (P : List Meaning) (a : ℕ → Cell) (s low : ℕ) (x : Float) (cr : ℕ) → s ≤ TERM
+    → (AllSteady P → AllRising P) → (AllSteady P → low ≡ lowest_of P) → low ≡ TERM → ((k : ℕ) → a k ≡ none) → total P ≤ cr
+    → Opened f tell P cr (union_meaning f tell s TERM x a P cr) TERM
+opened_end f tell P a s low x cr le rises lowest q z tot = record {
+  an_id = omega arith;
+  rises = rises;
+  becomes = λ st.
+      let h = lowest st in
+      is_calm f tell s TERM x a P cr (settled_by (bound s TERM) P st (omega (arith, bound_end s TERM (omega arith))))
+      ∙ ap calm (ended tell (ahead f s a P) TERM x (omega arith) ∙ sym (union_low f tell P TERM (rises st) (omega arith) ∙ listed_none tell (united f P) TERM (TERM - TERM) (λ d g l. absurd (omega arith))));
+  tells = first_is f tell s TERM x a P cr (omega arith);
+  small =
+      let h = small f tell s TERM x a P cr le tot in
       let y = count_none a 0 4096 (λ k g l. z k) in
       omega arith;
 }

@@ -128,6 +128,14 @@ reads_far s doc t doc1 r s1 P Q R lt le q rises sent a = record {
     past : settled (bound s doc) P ≡ true → TERM ≤ t → passed (reach r) (passed t P) ≡ passed (reach r) P
     past z l = let k = high z l in let e : reach r ≡ TERM = omega arith in ap (λ h. passed h (passed t P)) e ∙ ap (passed TERM) (passed_all t P (rises (all z)) l) ∙ passed_passed TERM TERM P (omega arith) ∙ ap (λ h. passed h P) (sym e)
 
+-- a window that opens at the end, from wherever it starts
+pub anew_end : (P : List Meaning) (s low : ℕ) → (AllSteady P → low ≡ lowest_of P) → low ≡ TERM → Anew P P s TERM
+anew_end P s low h q = record {
+  lowest = λ z. sym q ∙ h z;
+  list = λ z. passed_same (reach TERM) P z (let k = h z in omega arith);
+  begins = λ z. bound_end s TERM (omega arith);
+}
+
 pub anew_some : (f : Tally → Float → Tally) (P Q : List Meaning) (a b c : ℕ → Cell) (low e : ℕ) (t : Tally) → (AllSteady P → AllRising P) → (AllSteady P → low ≡ lowest_of P) → low < TERM → ((k : ℕ) → a k ≡ none) → Refilled f low (reach low) P Q a b → Next b c e t → Anew P Q low (low + e)
 anew_some f P Q a b c low e t rises lowest lt z v n = record {
   lowest = λ s. let k = zero_is s in let l = lowest s in omega arith;
